@@ -1,0 +1,27 @@
+use borrow.Author.Needs.{needs}
+use Rattle.words.proofs.checksum.Statement.{statement}
+use Rattle.words.proofs.checksum.Tie as tie
+use Rattle.words.proofs.checksum.Reads as reads
+use Rattle.words.proofs.checksum.Lts as lts
+use Rattle.words.proofs.checksum_of.Reads as checksum-of-reads
+use native.Mathlib.Omega.{arith}
+use borrow.Author.Tests.{lt-leb, le-leb}
+use Rattle.words.specs.Checksum.{checksumTold}
+
+returns : tie.Need-returns
+unfolding checksumTold
+returns c = simp (lt-leb _ _ (c .if1 .taken))
+
+returns-2 : tie.Need-returns-2
+unfolding checksumTold
+returns-2 c = simp (le-leb _ _ (c .before .if1 .left), lt-leb _ _ (c .if2 .taken))
+
+checksum-of-requires : tie.Need-checksum-of-requires
+checksum-of-requires c κs = search needs
+
+returns-3 : tie.Need-returns-3
+unfolding checksumTold
+returns-3 c = simp (le-leb _ _ (c .before .before .if1 .left), le-leb _ _ (c .before .if2 .left)) (c .checksum-of .ensures)
+
+pub checksum-spec : {M : Type 1} → statement M
+checksum-spec = tie.close (tie.spec returns returns-2 checksum-of-requires returns-3)

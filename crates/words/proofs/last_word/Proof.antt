@@ -1,0 +1,69 @@
+use borrow.Author.Needs.{needs}
+use Rattle.words.proofs.last_word.Statement.{statement}
+use Rattle.words.proofs.last_word.Tie as tie
+use Rattle.words.proofs.last_word.Reads as reads
+use Rattle.words.proofs.last_word.Lts as lts
+use Rattle.words.proofs.byte_or_zero.Reads as byte-or-zero-reads
+use native.Mathlib.Omega.{arith}
+use Rattle.words.proofs.Words.{word-at}
+
+byte-or-zero-requires : tie.Need-byte-or-zero-requires
+byte-or-zero-requires c κs = search needs
+
+add-byte-or-zero : tie.Need-add-byte-or-zero
+add-byte-or-zero c = search needs
+
+byte-or-zero-requires-2 : tie.Need-byte-or-zero-requires-2
+byte-or-zero-requires-2 c κs = search needs
+
+add-byte-or-zero-2 : tie.Need-add-byte-or-zero-2
+add-byte-or-zero-2 c = search needs
+
+byte-or-zero-requires-3 : tie.Need-byte-or-zero-requires-3
+byte-or-zero-requires-3 c κs = search needs
+
+add-byte-or-zero-3 : tie.Need-add-byte-or-zero-3
+add-byte-or-zero-3 c = search needs
+
+byte-or-zero-requires-4 : tie.Need-byte-or-zero-requires-4
+byte-or-zero-requires-4 c κs = search needs
+
+mul-result : tie.Need-mul-result
+mul-result c = search needs
+
+add-result : tie.Need-add-result
+add-result c = search needs
+
+mul-result-2 : tie.Need-mul-result-2
+mul-result-2 c = search needs
+
+add-result-2 : tie.Need-add-result-2
+add-result-2 c = search needs
+
+mul-result-3 : tie.Need-mul-result-3
+mul-result-3 c = search needs
+
+add-result-3 : tie.Need-add-result-3
+add-result-3 c = search needs
+
+returns : tie.Need-returns
+returns c = let a = c .before .before .before .before .before .args in omega (arith, word-at (a .s .now) (a .at))
+
+pub last-word-spec : {M : Type 1} → statement M
+last-word-spec =
+    tie.close
+    (tie.spec
+    byte-or-zero-requires
+    add-byte-or-zero
+    byte-or-zero-requires-2
+    add-byte-or-zero-2
+    byte-or-zero-requires-3
+    add-byte-or-zero-3
+    byte-or-zero-requires-4
+    mul-result
+    add-result
+    mul-result-2
+    add-result-2
+    mul-result-3
+    add-result-3
+    returns)
