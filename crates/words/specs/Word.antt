@@ -1,7 +1,11 @@
 -- Little-endian numbers in a list of bytes (01, "Header and checksum": "Sixteen bytes, four little-endian words").
 use mathlib.Core.List.{List, [], _∷_}
-use Prim.Native.Nat.{ℕ, zero, suc, _+_, _*_, _/_, _%_}
-use lib.ListN.{take, drop}
+use Prim.Native.Nat.{ℕ, zero, suc, _+_, _*_, _/_, _%_, _<_}
+use lib.ListN.{getD, take, drop}
+
+-- each number of the list is a byte
+abbrev pub Bytes : List ℕ → Type 0
+Bytes s = (i : ℕ) → getD s i 0 < 256
 
 -- the number that a list of bytes holds, low byte first
 unfoldable pub number : List ℕ → ℕ

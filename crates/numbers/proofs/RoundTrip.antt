@@ -1,0 +1,84 @@
+-- What the writer writes reads back, and what reads is what the writer writes. Assumes nothing.
+use mathlib.Core.Path.{_≡_, refl, sym, ap, ap₂, _∙_}
+use mathlib.Core.Bool.{Bool, true, false}
+use mathlib.Core.List.{List, [], _∷_, _++_}
+use mathlib.Core.Option.{Option, none, some}
+use Prim.Native.Nat.{ℕ, zero, suc, _+_, _-_, _*_, _/_, _%_, _^_, _≤_, _<_}
+use native.Mathlib.Omega.{arith}
+use native.Mathlib.Numerals.{add-one}
+use borrow.Author.Tests.{lt-ltb, le-ltb, ltb-true, ltb-false, eq-eqb, ne-eqb, eqb-true, eqb-false}
+use lib.Dec.{ltb, eqb}
+use lib.ListN.{length, getD, take, drop}
+use Rattle.words.specs.Below.{pick}
+use Rattle.words.specs.Word.{Bytes}
+use Rattle.words.proofs.Below.{by-test}
+use Rattle.numbers.specs.Groups.{groups, further, groupsOf}
+
+-- the first group and what the rest holds, joined
+joined : (b v n : ℕ) → (v ≡ 0 → ⊥) → further b (some (v, n)) ≡ some (b + 128 * v, n + 1)
+joined b v n h = rw (ne-eqb v 0 h)
+
+-- the writer's bytes, whatever follows them
+pub groups-written : (k v : ℕ) (rest : List ℕ) → v < 128 ^ suc k → groups (groupsOf k v ++ rest) ≡ some (v, length (groupsOf k v))
+unfolding groups groupsOf
+groups-written zero v rest h = rw (lt-ltb v 128 h)
+groups-written (suc k) v rest h =
+    by-test (ltb v 128)
+    (λ q. rw (q, q))
+    (λ q.
+    rw (q, le-ltb (v % 128 + 128) 128 (omega arith), groups-written k (v / 128) rest (omega arith))
+    (joined (v % 128 + 128 - 128) (v / 128) (length (groupsOf k (v / 128))) (λ e. omega (arith, ltb-false v 128 q))
+    ∙ ap₂ (λ (a b : ℕ). some (a, b)) (omega arith) (add-one (length (groupsOf k (v / 128))))))
+
+no-some : {r : ℕ × ℕ} → none ≡ some r → ⊥
+no-some e = let z : _≡_ {A = ℕ} 0 1 = cc e in omega arith
+
+value-of : Option (ℕ × ℕ) → ℕ × ℕ
+value-of none = (0, 0)
+value-of (some r) = r
+
+-- what the groups after a group must have held
+further-inv : (low : ℕ) (g : Option (ℕ × ℕ)) (v n : ℕ) → further low g ≡ some (v, n)
+    → (r : ℕ × ℕ) × (g ≡ some r) × (r .0 ≡ 0 → ⊥) × (v ≡ low + 128 * r .0) × (n ≡ r .1 + 1)
+unfolding value-of
+further-inv low none v n e = absurd (no-some e)
+further-inv low (some r) v n e =
+    by-test (eqb (r .0) 0)
+    (λ q. absurd (no-some (rw q at e)))
+    (λ q.
+    let t : some (low + 128 * r .0, r .1 + 1) ≡ some (v, n) = rw q at e in
+    (r, refl, eqb-false (r .0) 0 q, sym (ap (λ (o : Option (ℕ × ℕ)). value-of o .0) t), sym (ap (λ (o : Option (ℕ × ℕ)). value-of o .1) t)))
+
+small : (k v : ℕ) → v < 128 → groupsOf k v ≡ v ∷ []
+unfolding groupsOf
+small zero v h = refl
+small (suc k) v h = rw (lt-ltb v 128 h)
+
+large : (k b v : ℕ) → 128 ≤ b → b < 256 → (v ≡ 0 → ⊥) → groupsOf (suc k) (b - 128 + 128 * v) ≡ b ∷ groupsOf k v
+unfolding groupsOf
+large k b v h l n =
+    rw (le-ltb (b - 128 + 128 * v) 128 (omega arith))
+    (ap₂ (λ (a w : ℕ). a ∷ groupsOf k w) (omega arith) (omega arith))
+
+-- one group in front of others that are the writer's
+more : (k b v n : ℕ) (s : List ℕ) (r : ℕ × ℕ) → 128 ≤ b → b < 256 → (r .0 ≡ 0 → ⊥) → v ≡ b - 128 + 128 * r .0 → n ≡ r .1 + 1
+    → v < 128 ^ suc k → ((j : ℕ) → r .0 < 128 ^ suc j → take (r .1) s ≡ groupsOf j (r .0)) → take n (b ∷ s) ≡ groupsOf k v
+more zero b v n s r h l z p q fits rest = absurd (omega arith)
+more (suc k) b v n s r h l z p q fits rest =
+    rw (q, add-one, p, large k b (r .0) h l z) (ap (λ (t : List ℕ). b ∷ t) (rest k (omega arith)))
+
+-- the bytes that a number was read from are the writer's
+pub written-groups : (k : ℕ) (s : List ℕ) (v n : ℕ) → Bytes s → groups s ≡ some (v, n) → v < 128 ^ suc k → take n s ≡ groupsOf k v
+unfolding groups value-of
+written-groups k [] v n bytes e h = absurd (no-some e)
+written-groups k (b ∷ s) v n bytes e h =
+    by-test (ltb b 128)
+    (λ q.
+    let t : some (b, 1) ≡ some (v, n) = rw q at e in
+    let p : b ≡ v = ap (λ (o : Option (ℕ × ℕ)). value-of o .0) t in
+    let m : 1 ≡ n = ap (λ (o : Option (ℕ × ℕ)). value-of o .1) t in
+    rw (← p, ← m) (sym (small k b (ltb-true b 128 q))))
+    (λ q.
+    let f = further-inv (b - 128) (groups s) v n (rw q at e) in
+    more k b v n s (f .0) (ltb-false b 128 q) (bytes 0) (f .2) (f .3) (f .4) h
+    (λ j l. written-groups j s (f .0 .0) (f .0 .1) (λ i. bytes (suc i)) (f .1) l))
