@@ -1,3 +1,4 @@
 pub mod Carry
+pub mod Inside
 pub mod RoundTrip
 pub mod Vectors

@@ -13,6 +13,7 @@ use Rattle.words.specs.Below.{pick}
 use Rattle.words.specs.Word.{Bytes}
 use Rattle.words.proofs.Below.{by-test}
 use Rattle.numbers.specs.Groups.{groups, further, groupsOf}
+use Rattle.numbers.proofs.Inside.{no-some, value-of, further-inv}
 
 -- the first group and what the rest holds, joined
 joined : (b v n : ℕ) → (v ≡ 0 → ⊥) → further b (some (v, n)) ≡ some (b + 128 * v, n + 1)
@@ -29,25 +30,6 @@ groups-written (suc k) v rest h =
     rw (q, le-ltb (v % 128 + 128) 128 (omega arith), groups-written k (v / 128) rest (omega arith))
     (joined (v % 128 + 128 - 128) (v / 128) (length (groupsOf k (v / 128))) (λ e. omega (arith, ltb-false v 128 q))
     ∙ ap₂ (λ (a b : ℕ). some (a, b)) (omega arith) (add-one (length (groupsOf k (v / 128))))))
-
-no-some : {r : ℕ × ℕ} → none ≡ some r → ⊥
-no-some e = let z : _≡_ {A = ℕ} 0 1 = cc e in omega arith
-
-value-of : Option (ℕ × ℕ) → ℕ × ℕ
-value-of none = (0, 0)
-value-of (some r) = r
-
--- what the groups after a group must have held
-further-inv : (low : ℕ) (g : Option (ℕ × ℕ)) (v n : ℕ) → further low g ≡ some (v, n)
-    → (r : ℕ × ℕ) × (g ≡ some r) × (r .0 ≡ 0 → ⊥) × (v ≡ low + 128 * r .0) × (n ≡ r .1 + 1)
-unfolding value-of
-further-inv low none v n e = absurd (no-some e)
-further-inv low (some r) v n e =
-    by-test (eqb (r .0) 0)
-    (λ q. absurd (no-some (rw q at e)))
-    (λ q.
-    let t : some (low + 128 * r .0, r .1 + 1) ≡ some (v, n) = rw q at e in
-    (r, refl, eqb-false (r .0) 0 q, sym (ap (λ (o : Option (ℕ × ℕ)). value-of o .0) t), sym (ap (λ (o : Option (ℕ × ℕ)). value-of o .1) t)))
 
 small : (k v : ℕ) → v < 128 → groupsOf k v ≡ v ∷ []
 unfolding groupsOf

@@ -1,0 +1,3 @@
+pub mod TextLaws
+pub mod RowLaws
+pub mod CheckLaws

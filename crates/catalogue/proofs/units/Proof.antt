@@ -1,0 +1,28 @@
+use borrow.Author.Needs.{needs}
+use Rattle.catalogue.proofs.units.Statement.{statement}
+use Rattle.catalogue.proofs.units.Tie as tie
+use mathlib.Core.Path.{ap}
+use native.Mathlib.Omega.{arith}
+use Prim.Native.Nat.{ℕ}
+use lib.ListN.{take, drop}
+
+units-end-requires : tie.Need-units-end-requires
+units-end-requires c κs = search needs
+
+sub-result : tie.Need-sub-result
+sub-result c = search needs
+
+part-result-start : tie.Need-part-result-start
+part-result-start c = search needs
+
+part-result-end : tie.Need-part-result-end
+part-result-end c = search needs
+
+returns : tie.Need-returns
+returns c =
+    let a = c .before .before .before .args in
+    ap (λ (n : ℕ). take n (drop (a .text .start) (a .s .now))) (omega arith)
+
+pub units-spec : {M : Type 1} → statement M
+units-spec =
+    tie.close (tie.spec units-end-requires sub-result part-result-start part-result-end returns)

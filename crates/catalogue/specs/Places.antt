@@ -1,0 +1,112 @@
+-- The option catalogue by places in its list of bytes: what the code follows. proofs/Agree.antt shows that it says what the
+-- plain parser says.
+use mathlib.Core.Bool.{Bool, true, false}
+use mathlib.Core.List.{List, [], _∷_}
+use mathlib.Core.Option.{Option, none, some}
+use Prim.Native.Nat.{ℕ, zero, suc, _+_, _-_, _*_}
+use lib.Dec.{leb, eqb}
+use lib.ListN.{length, take, drop}
+use lib.Seq.{sets}
+use Rattle.words.specs.Below.{pick, both}
+use Rattle.words.specs.Word.{halves}
+use Rattle.numbers.specs.Reading.{readingAt}
+use Rattle.numbers.specs.declared.Reading.{Reading}
+use Rattle.numbers.specs.declared.Reading.the-variants.{Number, Malformed}
+use Rattle.catalogue.specs.Limits.{rowsMost, keyMost, numberMost, sizeMost, bytesMost}
+use Rattle.catalogue.specs.Plain.{Row, noneZero}
+use Rattle.catalogue.specs.declared.Text.{Text}
+use Rattle.catalogue.specs.declared.Fields.{Fields}
+use Rattle.catalogue.specs.declared.TextAt.{TextAt}
+use Rattle.catalogue.specs.declared.TextAt.the-variants.{TextTo, NoText}
+use Rattle.catalogue.specs.declared.RowAt.{RowAt}
+use Rattle.catalogue.specs.declared.RowAt.the-variants.{RowTo, NoRow}
+use Rattle.catalogue.specs.declared.Checked.{Checked}
+
+-- what was read is handed on with the place after it; what is malformed ends it
+abbrev pub withNumber : {A : Type 0} → Reading → A → (ℕ → ℕ → A) → A
+withNumber Malformed bad next = bad
+withNumber (Number v at) bad next = next v at
+
+abbrev pub withText : {A : Type 0} → TextAt → A → (Text → ℕ → A) → A
+withText NoText bad next = bad
+withText (TextTo t at) bad next = next t at
+
+abbrev pub withRow : {A : Type 0} → RowAt → A → (Fields → ℕ → A) → A
+withRow NoRow bad next = bad
+withRow (RowTo f at) bad next = next f at
+
+-- the bytes that a text's units take: two for each of size - 1 units
+abbrev pub unitBytesOf : ℕ → ℕ
+unitBytesOf size = 2 * (size - 1)
+
+-- the bytes of a text's units, and the units
+abbrev pub unitsPart : List ℕ → Text → List ℕ
+unitsPart s t = take (unitBytesOf (t .size)) (drop (t .start) s)
+
+-- "0 for absent, else its count of UTF-16 units plus one .., then the units .., none of them zero"
+abbrev pub textAfterAt : List ℕ → ℕ → ℕ → TextAt
+textAfterAt s size start =
+    pick
+    (both (leb (unitBytesOf size) (length s - start)) (noneZero (halves (take (unitBytesOf size) (drop start s)))))
+    (TextTo (record { size = size; start = start }) (start + unitBytesOf size))
+    NoText
+
+unfoldable pub textAt : List ℕ → ℕ → TextAt
+textAt s at = withNumber (readingAt sizeMost s at) NoText (textAfterAt s)
+
+-- "key, language, default, label, note"
+unfoldable pub rowAt : List ℕ → ℕ → RowAt
+rowAt s at =
+    withNumber (readingAt keyMost s at) NoRow λ key at₁.
+    withNumber (readingAt numberMost s at₁) NoRow λ language at₂.
+    withNumber (readingAt numberMost s at₂) NoRow λ default at₃.
+    withText (textAt s at₃) NoRow λ label at₄.
+    withText (textAt s at₄) NoRow λ note at₅.
+    RowTo (record { key = key; language = language; default = default; label = label; note = note }) at₅
+
+-- n rows stand from a place on, and "no bytes may follow"
+unfoldable pub rowsEnd : ℕ → List ℕ → ℕ → Bool
+rowsEnd zero s at = eqb at (length s)
+rowsEnd (suc n) s at = withRow (rowAt s at) false λ f next. rowsEnd n s next
+
+-- the places of n rows from a place on, up to the first row that is malformed
+unfoldable pub placesFrom : ℕ → List ℕ → ℕ → List ℕ
+placesFrom zero s at = []
+placesFrom (suc n) s at = at ∷ withRow (rowAt s at) [] λ f next. placesFrom n s next
+
+-- refusal 3 and no rows, or 0 and the row count
+abbrev pub malformed : Checked
+malformed = record { refusal = 3; rows = 0 }
+
+abbrev pub counted : ℕ → Bool → Checked
+counted n well = pick well (record { refusal = 0; rows = n }) malformed
+
+unfoldable pub checked : List ℕ → Checked
+checked s =
+    pick (leb (length s) bytesMost)
+    (withNumber (readingAt rowsMost s 0) malformed λ n at. counted n (rowsEnd n s at))
+    malformed
+
+-- the place of each row
+unfoldable pub places : List ℕ → List ℕ
+places s =
+    pick (leb (length s) bytesMost)
+    (withNumber (readingAt rowsMost s 0) [] λ n at. placesFrom n s at)
+    []
+
+-- the places written over what an array held
+abbrev pub noted : List ℕ → List ℕ → List ℕ
+noted s held = sets held 0 (places s)
+
+-- a text and a row as the plain parser has them
+abbrev pub textOf : List ℕ → Text → Option (List ℕ)
+textOf s t = pick (eqb (t .size) 0) none (some (halves (unitsPart s t)))
+
+abbrev pub rowOf : List ℕ → Fields → Row
+rowOf s f =
+    record { key = f .key; language = f .language; default = f .default; label = textOf s (f .label); note = textOf s (f .note) }
+
+-- the row that stands at a place (of no fields where there is none)
+abbrev pub rowSeen : List ℕ → ℕ → Row
+rowSeen s at =
+    withRow (rowAt s at) (record { key = 0; language = 0; default = 0; label = none; note = none }) λ f next. rowOf s f
