@@ -1,10 +1,7 @@
 use borrow.Author.Needs.{needs}
 use Rattle.catalogue.proofs.units.Statement.{statement}
 use Rattle.catalogue.proofs.units.Tie as tie
-use mathlib.Core.Path.{ap}
-use native.Mathlib.Omega.{arith}
-use Prim.Native.Nat.{ℕ}
-use lib.ListN.{take, drop}
+use Rattle.catalogue.proofs.TextLaws.{units-part}
 
 units-end-requires : tie.Need-units-end-requires
 units-end-requires c κs = search needs
@@ -20,8 +17,7 @@ part-result-end c = search needs
 
 returns : tie.Need-returns
 returns c =
-    let a = c .before .before .before .args in
-    ap (λ (n : ℕ). take n (drop (a .text .start) (a .s .now))) (omega arith)
+    let a = c .before .before .before .args in units-part (a .s .now) (a .text) (c .before .units-end .result) (c .before .units-end .ensures)
 
 pub units-spec : {M : Type 1} → statement M
 units-spec =
