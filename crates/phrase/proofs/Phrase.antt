@@ -10,7 +10,7 @@ use lib.ListN.{length, getD}
 use Rattle.words.specs.Below.{both, pick, everyBelow}
 use Rattle.words.proofs.Below.{true≢false}
 use Rattle.phrase.specs.Phrase.{space, exact, OccursAt, Occurs, standsAt, startsWord, endsWord, occursAt, occurs}
-use Rattle.phrase.proofs.Says.{leb-says, eqb-says, both-says, either-says, where-says, every-says, some-says, says-not}
+use Rattle.words.proofs.Says.{leb-says, eqb-says, both-says, either-says, where-says, every-says, some-says, says-not}
 
 pub starts-says : (t : List ℕ) (place : ℕ) → (startsWord t place ≡ true) ↔ ((place ≡ 0) ⊎ (getD t (place - 1) 0 ≡ space))
 unfolding startsWord

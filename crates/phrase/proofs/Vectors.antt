@@ -8,7 +8,7 @@ use native.Mathlib.Omega.{arith}
 use lib.ListN.{length}
 use Rattle.words.specs.Below.{someBelow, everyBelow}
 use Rattle.phrase.specs.Phrase.{space, standsAt, startsWord, endsWord, occursAt, occurs}
-use Rattle.phrase.proofs.Says.{says-not}
+use Rattle.words.proofs.Says.{says-not}
 use Rattle.phrase.proofs.Phrase.{occurs-says}
 
 -- "start", "starting", "restart", "re start", "re starting start" and "a re start b", as units

@@ -1,3 +1,4 @@
 pub mod Below
+pub mod Says
 pub mod Words
 pub mod Halves
