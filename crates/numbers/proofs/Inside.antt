@@ -9,38 +9,32 @@ use lib.Dec.{ltb, leb, eqb}
 use lib.ListN.{length, drop, length-drop}
 use Rattle.words.specs.Below.{pick}
 use Rattle.words.proofs.Below.{by-test}
+use Rattle.words.proofs.Options.{none≢some, pair-is}
 use Rattle.numbers.specs.Groups.{groups, further, within}
 use Rattle.numbers.specs.Reading.{placed, readingAt}
 use Rattle.numbers.specs.declared.Reading.{Reading}
 use Rattle.numbers.specs.declared.Reading.the-variants.{Number, Malformed}
 
-pub no-some : {r : ℕ × ℕ} → none ≡ some r → ⊥
-no-some e = let z : _≡_ {A = ℕ} 0 1 = cc e in omega arith
-
-unfoldable pub value-of : Option (ℕ × ℕ) → ℕ × ℕ
-value-of none = (0, 0)
-value-of (some r) = r
-
 -- what the groups after a group must have held
 pub further-inv : (low : ℕ) (g : Option (ℕ × ℕ)) (v n : ℕ) → further low g ≡ some (v, n)
     → (r : ℕ × ℕ) × (g ≡ some r) × (r .0 ≡ 0 → ⊥) × (v ≡ low + 128 * r .0) × (n ≡ r .1 + 1)
-unfolding value-of
-further-inv low none v n e = absurd (no-some e)
+further-inv low none v n e = absurd (none≢some e)
 further-inv low (some r) v n e =
     by-test (eqb (r .0) 0)
-    (λ q. absurd (no-some (rw q at e)))
+    (λ q. absurd (none≢some (rw q at e)))
     (λ q.
     let t : some (low + 128 * r .0, r .1 + 1) ≡ some (v, n) = rw q at e in
-    (r, refl, eqb-false (r .0) 0 q, sym (ap (λ (o : Option (ℕ × ℕ)). value-of o .0) t), sym (ap (λ (o : Option (ℕ × ℕ)). value-of o .1) t)))
+    (r, refl, eqb-false (r .0) 0 q, sym (pair-is t .0), sym (pair-is t .1)))
 
 -- at least one byte, and no more than there are
 pub groups-used : (s : List ℕ) (v n : ℕ) → groups s ≡ some (v, n) → (0 < n) × (n ≤ length s)
-unfolding groups value-of
-groups-used [] v n e = absurd (no-some e)
+unfolding groups
+groups-used [] v n e = absurd (none≢some e)
 groups-used (b ∷ s) v n e =
     by-test (ltb b 128)
     (λ q.
-    let m : 1 ≡ n = ap (λ (o : Option (ℕ × ℕ)). value-of o .1) (rw q at e) in
+    let t : some (b, 1) ≡ some (v, n) = rw q at e in
+      let m : 1 ≡ n = pair-is t .1 in
     (omega arith, omega arith))
     (λ q.
     let f = further-inv (b - 128) (groups s) v n (rw q at e) in

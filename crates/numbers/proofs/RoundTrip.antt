@@ -6,14 +6,16 @@ use mathlib.Core.Option.{Option, none, some}
 use Prim.Native.Nat.{ℕ, zero, suc, _+_, _-_, _*_, _/_, _%_, _^_, _≤_, _<_}
 use native.Mathlib.Omega.{arith}
 use native.Mathlib.Numerals.{add-one}
-use borrow.Author.Tests.{lt-ltb, le-ltb, ltb-true, ltb-false, eq-eqb, ne-eqb, eqb-true, eqb-false}
-use lib.Dec.{ltb, eqb}
-use lib.ListN.{length, getD, take, drop}
+use borrow.Author.Tests.{lt-ltb, le-ltb, ltb-true, ltb-false, eq-eqb, ne-eqb, eqb-true, eqb-false, le-leb, leb-true}
+use lib.Dec.{ltb, leb, eqb}
+use lib.ListN.{length, getD, take, drop, take-append-drop}
+use lib.Seq.{drop-append-seam}
 use Rattle.words.specs.Below.{pick}
 use Rattle.words.specs.Word.{Bytes}
 use Rattle.words.proofs.Below.{by-test}
-use Rattle.numbers.specs.Groups.{groups, further, groupsOf}
-use Rattle.numbers.proofs.Inside.{no-some, value-of, further-inv}
+use Rattle.words.proofs.Options.{none≢some, pair-is}
+use Rattle.numbers.specs.Groups.{groups, further, within, number, splitAfter, groupsOf, written}
+use Rattle.numbers.proofs.Inside.{further-inv}
 
 -- the first group and what the rest holds, joined
 joined : (b v n : ℕ) → (v ≡ 0 → ⊥) → further b (some (v, n)) ≡ some (b + 128 * v, n + 1)
@@ -51,16 +53,42 @@ more (suc k) b v n s r h l z p q fits rest =
 
 -- the bytes that a number was read from are the writer's
 pub written-groups : (k : ℕ) (s : List ℕ) (v n : ℕ) → Bytes s → groups s ≡ some (v, n) → v < 128 ^ suc k → take n s ≡ groupsOf k v
-unfolding groups value-of
-written-groups k [] v n bytes e h = absurd (no-some e)
+unfolding groups
+written-groups k [] v n bytes e h = absurd (none≢some e)
 written-groups k (b ∷ s) v n bytes e h =
     by-test (ltb b 128)
     (λ q.
     let t : some (b, 1) ≡ some (v, n) = rw q at e in
-    let p : b ≡ v = ap (λ (o : Option (ℕ × ℕ)). value-of o .0) t in
-    let m : 1 ≡ n = ap (λ (o : Option (ℕ × ℕ)). value-of o .1) t in
+    let p : b ≡ v = pair-is t .0 in
+    let m : 1 ≡ n = pair-is t .1 in
     rw (← p, ← m) (sym (small k b (ltb-true b 128 q))))
     (λ q.
     let f = further-inv (b - 128) (groups s) v n (rw q at e) in
     more k b v n s (f .0) (ltb-false b 128 q) (bytes 0) (f .2) (f .3) (f .4) h
     (λ j l. written-groups j s (f .0 .0) (f .0 .1) (λ i. bytes (suc i)) (f .1) l))
+
+-- the plain parser reads what the writer wrote, whatever follows it
+pub number-written : (limit v : ℕ) (rest : List ℕ) → v ≤ limit → limit < 128 ^ 10 → number limit (written v ++ rest) ≡ some (v, rest)
+unfolding number
+number-written limit v rest h l =
+    rw (groups-written 9 v rest (omega arith), le-leb v limit h, drop-append-seam (written v) rest)
+
+-- and what it read is what the writer writes
+pub number-read : (limit : ℕ) (s : List ℕ) (v : ℕ) (rest : List ℕ) → limit < 128 ^ 10 → Bytes s → number limit s ≡ some (v, rest)
+    → (s ≡ written v ++ rest) × (v ≤ limit)
+unfolding number
+number-read limit s v rest l bytes e = go (groups s) refl e
+    where
+      go : (g : Option (ℕ × ℕ)) → groups s ≡ g → splitAfter s (within limit g) ≡ some (v, rest) → (s ≡ written v ++ rest) × (v ≤ limit)
+      go none p q = absurd (none≢some q)
+      go (some r) p q =
+          by-test (leb (r .0) limit)
+          (λ t.
+            let w : some (r .0, drop (r .1) s) ≡ some (v, rest) = rw t at q in
+            let value : r .0 ≡ v = pair-is w .0 in
+            let after : drop (r .1) s ≡ rest = pair-is w .1 in
+            let small : r .0 ≤ limit = leb-true (r .0) limit t in
+            (sym (take-append-drop (r .1) s)
+            ∙ ap₂ (λ (a b : List ℕ). a ++ b) (written-groups 9 s (r .0) (r .1) bytes p (omega arith) ∙ ap written value) after
+            , omega arith))
+          (λ t. absurd (none≢some (rw t at q)))

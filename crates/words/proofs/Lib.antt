@@ -1,4 +1,6 @@
 pub mod Below
+pub mod Options
 pub mod Says
 pub mod Words
 pub mod Halves
+pub mod Vectors

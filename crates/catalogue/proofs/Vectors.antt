@@ -1,0 +1,31 @@
+-- The catalogue of 01's whole case: its seventeen bytes, its two rows, and what the check says of it.
+use mathlib.Core.Path.{_≡_, refl}
+use mathlib.Core.List.{List, [], _∷_}
+use mathlib.Core.Option.{Option, none, some}
+use Prim.Native.Nat.{ℕ}
+use Rattle.words.specs.Below.{everyBelow}
+use Rattle.words.specs.Word.{halves}
+use Rattle.numbers.specs.Groups.{groups, number, groupsOf}
+use Rattle.numbers.specs.Reading.{readingAt}
+use Rattle.catalogue.specs.Plain.{Row, text, row, rows, catalogue}
+use Rattle.catalogue.specs.Places.{textAt, rowAt, rowsEnd, placesFrom, checked, places}
+use Rattle.catalogue.specs.declared.Checked.{Checked}
+
+abbrev pub caseBytes : List ℕ
+caseBytes =
+    0x02 ∷ 0xac ∷ 0x02 ∷ 0x87 ∷ 0x08 ∷ 0x05 ∷ 0x03 ∷ 0x4f ∷ 0x00 ∷ 0x4b ∷ 0x00 ∷ 0x00 ∷ 0x01 ∷ 0x00 ∷ 0x00 ∷ 0x00 ∷ 0x00 ∷ []
+
+-- key 300, language 1,031, default 5, label "OK", no note; then key 1 and nothing else
+abbrev pub caseRows : List Row
+caseRows =
+    record { key = 300; language = 1031; default = 5; label = some (0x4f ∷ 0x4b ∷ []); note = none }
+    ∷ record { key = 1; language = 0; default = 0; label = none; note = none }
+    ∷ []
+
+pub case-parses : catalogue caseBytes ≡ some caseRows
+unfolding catalogue rows row text number groups halves everyBelow
+case-parses = refl
+
+pub case-checked : (checked caseBytes ≡ record { refusal = 0; rows = 2 }) × (places caseBytes ≡ 1 ∷ 12 ∷ [])
+unfolding checked places rowsEnd placesFrom rowAt textAt readingAt groups halves everyBelow
+case-checked = (refl, refl)
