@@ -1,21 +1,21 @@
 -- What parses is exactly what the writer writes: rows that fit are read back from their bytes, and bytes that parse are those
 -- of the rows they parse to, which fit. Assumes nothing.
 use mathlib.Core.Path.{_≡_, refl, sym, ap, ap₂, subst, _∙_}
-use mathlib.Core.Bool.{Bool, true, false, not}
+use mathlib.Core.Bool.{true, false, not}
 use mathlib.Core.List.{List, [], _∷_, _++_, append-assoc, append-nil}
 use mathlib.Core.Option.{Option, none, some}
-use Prim.Native.Nat.{ℕ, zero, suc, _+_, _-_, _*_, _/_, _%_, _≤_, _<_}
+use Prim.Native.Nat.{ℕ, zero, suc, _+_, _-_, _*_, _≤_, _<_}
 use native.Mathlib.Numerals.{add-one}
 use native.Mathlib.Omega.{arith}
-use borrow.Author.Tests.{eq-eqb, ne-eqb, eqb-false, le-leb, leb-true, not-true}
+use borrow.Author.Tests.{ne-eqb, eqb-false, le-leb, leb-true, not-true}
 use lib.Dec.{leb, eqb}
-use lib.ListN.{length, getD, take, drop, length-append, length-take, length-drop, take-append-drop}
-use lib.Seq.{take-at, drop-at, getD-append-add, getD-take, length-take-le}
-use Rattle.words.specs.Below.{pick, both, everyBelow}
+use lib.ListN.{length, getD, take, drop, length-append, take-append-drop}
+use lib.Seq.{take-at, drop-at, getD-append-add, length-take-le}
+use Rattle.words.specs.Below.{both}
 use Rattle.words.specs.Word.{Bytes, halves, le}
 use Rattle.words.proofs.Halves.{halves-length}
 use Rattle.words.proofs.Options.{none≢some, some-is, pair-is}
-use Rattle.words.proofs.Below.{by-test, true≢false, both-left, both-right, both-true, every-at, every-shown}
+use Rattle.words.proofs.Below.{by-test, both-left, both-right, every-at, every-shown}
 use Rattle.numbers.specs.Groups.{number, written}
 use Rattle.numbers.proofs.RoundTrip.{number-written, number-read}
 use Rattle.catalogue.specs.Limits.{rowsMost, keyMost, numberMost, sizeMost, bytesMost}
@@ -70,15 +70,16 @@ text-written : (t : Option (List ℕ)) (rest : List ℕ) → TextFits t → text
 unfolding text
 text-written none rest fits = rw (number-written sizeMost 0 rest (omega arith) (omega arith))
 text-written (some units) rest fits =
-    rw
-    (append-assoc (written (length units + 1)) (unitBytes units) rest
-    , number-written sizeMost (length units + 1) (unitBytes units ++ rest) (omega (arith, fits .0)) (omega arith)
-    , add-one
-    , take-at (unitBytes units) rest (2 * length units) (unit-bytes-length units)
-    , drop-at (unitBytes units) rest (2 * length units) (unit-bytes-length units)
-    , halves-written units (fits .1)
-    , units-clear units (fits .1)
-    , le-leb (2 * length units) (length (unitBytes units ++ rest)) (omega (arith, length-append (unitBytes units) rest, unit-bytes-length units)))
+    rw (
+      append-assoc (written (length units + 1)) (unitBytes units) rest,
+      number-written sizeMost (length units + 1) (unitBytes units ++ rest) (omega (arith, fits .0)) (omega arith),
+      add-one,
+      take-at (unitBytes units) rest (2 * length units) (unit-bytes-length units),
+      drop-at (unitBytes units) rest (2 * length units) (unit-bytes-length units),
+      halves-written units (fits .1),
+      units-clear units (fits .1),
+      le-leb (2 * length units) (length (unitBytes units ++ rest)) (omega (arith, length-append (unitBytes units) rest, unit-bytes-length units)),
+    )
 
 and-then-inv : {A B : Type 0} (o : Option (A × List ℕ)) (f : A → List ℕ → Option B) (b : B) → andThen o f ≡ some b
     → (r : A × List ℕ) × (o ≡ some r) × (f (r .0) (r .1) ≡ some b)
@@ -94,21 +95,25 @@ bytes-take (suc n) (b ∷ s) bytes (suc i) = bytes-take n s (λ j. bytes (suc j)
 -- the units that a text was read to, after its size
 units-back : (n : ℕ) (s : List ℕ) → suc n ≤ sizeMost → Bytes s → 2 * n ≤ length s → noneZero (halves (take (2 * n) s)) ≡ true
     → (written (suc n) ++ s ≡ writeText (some (halves (take (2 * n) s))) ++ drop (2 * n) s) × TextFits (some (halves (take (2 * n) s)))
-units-back n s h bytes l clear =
-    (ap (λ (m : ℕ). written m ++ s) size
-    ∙ ap (λ (r : List ℕ). written (length units + 1) ++ r) (sym (take-append-drop (2 * n) s))
-    ∙ sym (append-assoc (written (length units + 1)) (take (2 * n) s) (drop (2 * n) s))
-    ∙ ap (λ (r : List ℕ). (written (length units + 1) ++ r) ++ drop (2 * n) s) (sym (written-halves (take (2 * n) s) n taken bytes'))
-    , (omega (arith, size), clear-units (take (2 * n) s) bytes' clear))
-    where
-      units : List ℕ
-      units = halves (take (2 * n) s)
-      bytes' : Bytes (take (2 * n) s)
-      bytes' = bytes-take (2 * n) s bytes
-      taken : length (take (2 * n) s) ≡ 2 * n
-      taken = length-take-le (2 * n) s l
-      size : suc n ≡ length units + 1
-      size = omega (arith, halves-length (take (2 * n) s), taken)
+units-back n s h bytes l clear = (
+  ap (λ (m : ℕ). written m ++ s) size
+      ∙ ap (λ (r : List ℕ). written (length units + 1) ++ r) (sym (take-append-drop (2 * n) s))
+      ∙ sym (append-assoc (written (length units + 1)) (take (2 * n) s) (drop (2 * n) s))
+      ∙ ap (λ (r : List ℕ). (written (length units + 1) ++ r) ++ drop (2 * n) s) (sym (written-halves (take (2 * n) s) n taken bytes')),
+  (omega (arith, size), clear-units (take (2 * n) s) bytes' clear),
+)
+  where
+    units : List ℕ
+    units = halves (take (2 * n) s)
+
+    bytes' : Bytes (take (2 * n) s)
+    bytes' = bytes-take (2 * n) s bytes
+
+    taken : length (take (2 * n) s) ≡ 2 * n
+    taken = length-take-le (2 * n) s l
+
+    size : suc n ≡ length units + 1
+    size = omega (arith, halves-length (take (2 * n) s), taken)
 
 text-back : (s : List ℕ) (t : Option (List ℕ)) (rest : List ℕ) → Bytes s → text s ≡ some (t, rest) → (s ≡ writeText t ++ rest) × TextFits t
 unfolding text
@@ -116,32 +121,33 @@ text-back s t rest bytes e =
     let i = and-then-inv (number sizeMost s) textAfter (t, rest) e in
     let r = number-read sizeMost s (i .0 .0) (i .0 .1) (omega arith) bytes (i .1) in
     go (i .0 .0) (i .0 .1) (r .0) (r .1) (i .2)
-    where
-      go : (n : ℕ) (after : List ℕ) → s ≡ written n ++ after → n ≤ sizeMost → textAfter n after ≡ some (t, rest) → (s ≡ writeText t ++ rest) × TextFits t
-      go zero after w h q =
-          let f : _≡_ {A = Option (Option (List ℕ) × List ℕ)} (some (none, after)) (some (t, rest)) = q in
-          rw (← (pair-is f .0), ← (pair-is f .1)) (w, tt)
-      go (suc n) after w h q =
-          by-test (both (leb (2 * n) (length after)) (noneZero (halves (take (2 * n) after))))
-          (λ c.
-            let f : _≡_ {A = Option (Option (List ℕ) × List ℕ)} (some (some (halves (take (2 * n) after)), drop (2 * n) after)) (some (t, rest)) = rw c at q in
-            let b = units-back n after h (bytes-after s (written (suc n)) after w bytes)
-                (leb-true (2 * n) (length after) (both-left _ (noneZero (halves (take (2 * n) after))) c))
-                (both-right (leb (2 * n) (length after)) _ c) in
-            rw (← (pair-is f .0), ← (pair-is f .1)) (w ∙ b .0, b .1))
-          (λ c. absurd (none≢some (rw c at q)))
+  where
+    go : (n : ℕ) (after : List ℕ) → s ≡ written n ++ after → n ≤ sizeMost → textAfter n after ≡ some (t, rest) → (s ≡ writeText t ++ rest) × TextFits t
+    go zero after w h q =
+        let f : _≡_ {A = Option (Option (List ℕ) × List ℕ)} (some (none, after)) (some (t, rest)) = q in
+        rw (← (pair-is f .0), ← (pair-is f .1)) (w, tt)
+    go (suc n) after w h q =
+        by-test (both (leb (2 * n) (length after)) (noneZero (halves (take (2 * n) after))))
+        (λ c.
+        let f : _≡_ {A = Option (Option (List ℕ) × List ℕ)} (some (some (halves (take (2 * n) after)), drop (2 * n) after)) (some (t, rest)) = rw c at q in
+        let b = units-back n after h (bytes-after s (written (suc n)) after w bytes)
+        (leb-true (2 * n) (length after) (both-left _ (noneZero (halves (take (2 * n) after))) c))
+        (both-right (leb (2 * n) (length after)) _ c) in
+        rw (← (pair-is f .0), ← (pair-is f .1)) (w ∙ b .0, b .1))
+        (λ c. absurd (none≢some (rw c at q)))
 
 -- a row
 row-written : (r : Row) (rest : List ℕ) → RowFits r → row (writeRow r ++ rest) ≡ some (r, rest)
 unfolding row
 row-written r rest fits =
     simp append-assoc
-    (rw
-    (number-written keyMost (r .key) _ (fits .key) (omega arith)
-    , number-written numberMost (r .language) _ (fits .language) (omega arith)
-    , number-written numberMost (r .default) _ (fits .default) (omega arith)
-    , text-written (r .label) _ (fits .label)
-    , text-written (r .note) rest (fits .note)))
+    (rw (
+      number-written keyMost (r .key) _ (fits .key) (omega arith),
+      number-written numberMost (r .language) _ (fits .language) (omega arith),
+      number-written numberMost (r .default) _ (fits .default) (omega arith),
+      text-written (r .label) _ (fits .label),
+      text-written (r .note) rest (fits .note),
+    ))
 
 joined : (r : Row) (s s₁ s₂ s₃ s₄ rest : List ℕ) → s ≡ written (r .key) ++ s₁ → s₁ ≡ written (r .language) ++ s₂ → s₂ ≡ written (r .default) ++ s₃
     → s₃ ≡ writeText (r .label) ++ s₄ → s₄ ≡ writeText (r .note) ++ rest → s ≡ writeRow r ++ rest
@@ -158,9 +164,10 @@ fields-back k l d a b s s₁ s₂ s₃ s₄ s₅ bytes e₁ e₂ e₃ e₄ e₅ 
     let d' = number-read numberMost s₂ d s₃ (omega arith) bytes₂ e₃ in
     let bytes₃ = bytes-after s₂ (written d) s₃ (d' .0) bytes₂ in
     let a' = text-back s₃ a s₄ bytes₃ e₄ in
-    let b' = text-back s₄ b s₅ (bytes-after s₃ (writeText a) s₄ (a' .0) bytes₃) e₅ in
-    (joined (record { key = k; language = l; default = d; label = a; note = b }) s s₁ s₂ s₃ s₄ s₅ (k' .0) (l' .0) (d' .0) (a' .0) (b' .0)
-    , record { key = k' .1; language = l' .1; default = d' .1; label = a' .1; note = b' .1 })
+    let b' = text-back s₄ b s₅ (bytes-after s₃ (writeText a) s₄ (a' .0) bytes₃) e₅ in (
+      joined (record { key = k; language = l; default = d; label = a; note = b }) s s₁ s₂ s₃ s₄ s₅ (k' .0) (l' .0) (d' .0) (a' .0) (b' .0),
+      record { key = k' .1; language = l' .1; default = d' .1; label = a' .1; note = b' .1 },
+    )
 
 row-back : (s : List ℕ) (r : Row) (rest : List ℕ) → Bytes s → row s ≡ some (r, rest) → (s ≡ writeRow r ++ rest) × RowFits r
 unfolding row
@@ -172,13 +179,13 @@ row-back s r rest bytes e =
     let b = and-then-inv (text (a .0 .1)) _ (r, rest) (a .2) in
     told (k .0 .0) (l .0 .0) (d .0 .0) (a .0 .0) (b .0 .0) (b .0 .1) (b .2)
     (fields-back (k .0 .0) (l .0 .0) (d .0 .0) (a .0 .0) (b .0 .0) s (k .0 .1) (l .0 .1) (d .0 .1) (a .0 .1) (b .0 .1) bytes (k .1) (l .1) (d .1) (a .1) (b .1))
-    where
-      told : (k l d : ℕ) (a b : Option (List ℕ)) (s₅ : List ℕ)
-          → _≡_ {A = Option (Row × List ℕ)} (some (record { key = k; language = l; default = d; label = a; note = b }, s₅)) (some (r, rest))
-          → (s ≡ writeRow (record { key = k; language = l; default = d; label = a; note = b }) ++ s₅) × RowFits (record { key = k; language = l; default = d; label = a; note = b })
-          → (s ≡ writeRow r ++ rest) × RowFits r
-      told k l d a b s₅ q w =
-          subst (λ (p : Row × List ℕ). (s ≡ writeRow (p .0) ++ p .1) × RowFits (p .0)) (some-is q) w
+  where
+    told : (k l d : ℕ) (a b : Option (List ℕ)) (s₅ : List ℕ)
+        → _≡_ {A = Option (Row × List ℕ)} (some (record { key = k; language = l; default = d; label = a; note = b }, s₅)) (some (r, rest))
+        → (s ≡ writeRow (record { key = k; language = l; default = d; label = a; note = b }) ++ s₅) × RowFits (record { key = k; language = l; default = d; label = a; note = b })
+        → (s ≡ writeRow r ++ rest) × RowFits r
+    told k l d a b s₅ q w =
+        subst (λ (p : Row × List ℕ). (s ≡ writeRow (p .0) ++ p .1) × RowFits (p .0)) (some-is q) w
 
 -- rows, one after the other
 rows-written : (rs : List Row) (rest : List ℕ) → RowsFit rs → rows (length rs) (writeRows rs ++ rest) ≡ some (rs, rest)
@@ -197,24 +204,25 @@ rows-back (suc n) s rs rest bytes e =
     let r' = row-back s (f .0 .0) (f .0 .1) bytes (f .1) in
     let rs' = rows-back n (f .0 .1) (g .0 .0) (g .0 .1) (bytes-after s (writeRow (f .0 .0)) (f .0 .1) (r' .0) bytes) (g .1) in
     told (f .0 .0) (f .0 .1) (g .0 .0) (g .0 .1) r' rs' (g .2)
-    where
-      told : (r : Row) (s₁ : List ℕ) (others : List Row) (s₂ : List ℕ) → (s ≡ writeRow r ++ s₁) × RowFits r
-          → (s₁ ≡ writeRows others ++ s₂) × RowsFit others × (length others ≡ n)
-          → _≡_ {A = Option (List Row × List ℕ)} (some (r ∷ others, s₂)) (some (rs, rest))
-          → (s ≡ writeRows rs ++ rest) × RowsFit rs × (length rs ≡ suc n)
-      told r s₁ others s₂ a b q =
-          subst (λ (p : List Row × List ℕ). (s ≡ writeRows (p .0) ++ p .1) × RowsFit (p .0) × (length (p .0) ≡ suc n)) (some-is q)
-          (a .0 ∙ ap (λ (t : List ℕ). writeRow r ++ t) (b .0) ∙ sym (append-assoc (writeRow r) (writeRows others) s₂), (a .1, b .1), ap suc (b .2))
+  where
+    told : (r : Row) (s₁ : List ℕ) (others : List Row) (s₂ : List ℕ) → (s ≡ writeRow r ++ s₁) × RowFits r
+        → (s₁ ≡ writeRows others ++ s₂) × RowsFit others × (length others ≡ n)
+        → _≡_ {A = Option (List Row × List ℕ)} (some (r ∷ others, s₂)) (some (rs, rest))
+        → (s ≡ writeRows rs ++ rest) × RowsFit rs × (length rs ≡ suc n)
+    told r s₁ others s₂ a b q =
+        subst (λ (p : List Row × List ℕ). (s ≡ writeRows (p .0) ++ p .1) × RowsFit (p .0) × (length (p .0) ≡ suc n)) (some-is q)
+        (a .0 ∙ ap (λ (t : List ℕ). writeRow r ++ t) (b .0) ∙ sym (append-assoc (writeRow r) (writeRows others) s₂), (a .1, b .1), ap suc (b .2))
 
 -- the whole: rows that fit parse back from what is written of them
 pub parses-written : (rs : List Row) → Fits rs → catalogue (write rs) ≡ some rs
 unfolding catalogue
 parses-written rs fits =
-    rw
-    (le-leb (length (write rs)) bytesMost (fits .size)
-    , number-written rowsMost (length rs) (writeRows rs) (fits .count) (omega arith)
-    , ← (append-nil (writeRows rs))
-    , rows-written rs [] (fits .each))
+    rw (
+      le-leb (length (write rs)) bytesMost (fits .size),
+      number-written rowsMost (length rs) (writeRows rs) (fits .count) (omega arith),
+      ← (append-nil (writeRows rs)),
+      rows-written rs [] (fits .each),
+    )
 
 whole-back : (rs : List Row) (rest : List ℕ) (told : List Row) → whole rs rest ≡ some told → (rest ≡ []) × (rs ≡ told)
 whole-back rs [] told e = (refl, some-is e)
@@ -226,23 +234,24 @@ unfolding catalogue
 written-parses s rs bytes e =
     by-test (leb (length s) bytesMost)
     (λ q.
-      let n = and-then-inv (number rowsMost s) _ rs (rw q at e) in
-      let m = and-then-inv (rows (n .0 .0) (n .0 .1)) whole rs (n .2) in
-      go q (n .0 .0) (n .0 .1) (m .0 .0) (m .0 .1) (n .1) (m .1) (m .2))
+    let n = and-then-inv (number rowsMost s) _ rs (rw q at e) in
+    let m = and-then-inv (rows (n .0 .0) (n .0 .1)) whole rs (n .2) in
+    go q (n .0 .0) (n .0 .1) (m .0 .0) (m .0 .1) (n .1) (m .1) (m .2))
     (λ q. absurd (none≢some (rw q at e)))
-    where
-      go : leb (length s) bytesMost ≡ true → (n : ℕ) (s₁ : List ℕ) (found : List Row) (s₂ : List ℕ) → number rowsMost s ≡ some (n, s₁)
-          → rows n s₁ ≡ some (found, s₂) → whole found s₂ ≡ some rs → (s ≡ write rs) × Fits rs
-      go q n s₁ found s₂ a b w =
-          let n' = number-read rowsMost s n s₁ (omega arith) bytes a in
-          let r' = rows-back n s₁ found s₂ (bytes-after s (written n) s₁ (n' .0) bytes) b in
-          let w' = whole-back found s₂ rs w in
-          let count : length rs ≡ n = ap length (sym (w' .1)) ∙ r' .2 in
-          let each : writeRows found ++ s₂ ≡ writeRows rs = ap₂ (λ (f : List Row) (t : List ℕ). writeRows f ++ t) (w' .1) (w' .0) ∙ append-nil (writeRows rs) in
-          let same : s ≡ write rs = n' .0 ∙ ap₂ (λ (m : ℕ) (t : List ℕ). written m ++ t) (sym count) (r' .0 ∙ each) in
-          (same
-          , record
-            { count = omega (arith, n' .1)
-            ; each = subst RowsFit (w' .1) (r' .1)
-            ; size = subst (λ (t : List ℕ). length t ≤ bytesMost) same (leb-true (length s) bytesMost q)
-            })
+  where
+    go : leb (length s) bytesMost ≡ true → (n : ℕ) (s₁ : List ℕ) (found : List Row) (s₂ : List ℕ) → number rowsMost s ≡ some (n, s₁)
+        → rows n s₁ ≡ some (found, s₂) → whole found s₂ ≡ some rs → (s ≡ write rs) × Fits rs
+    go q n s₁ found s₂ a b w =
+        let n' = number-read rowsMost s n s₁ (omega arith) bytes a in
+        let r' = rows-back n s₁ found s₂ (bytes-after s (written n) s₁ (n' .0) bytes) b in
+        let w' = whole-back found s₂ rs w in
+        let count : length rs ≡ n = ap length (sym (w' .1)) ∙ r' .2 in
+        let each : writeRows found ++ s₂ ≡ writeRows rs = ap₂ (λ (f : List Row) (t : List ℕ). writeRows f ++ t) (w' .1) (w' .0) ∙ append-nil (writeRows rs) in
+        let same : s ≡ write rs = n' .0 ∙ ap₂ (λ (m : ℕ) (t : List ℕ). written m ++ t) (sym count) (r' .0 ∙ each) in (
+          same,
+          record {
+            count = omega (arith, n' .1);
+            each = subst RowsFit (w' .1) (r' .1);
+            size = subst (λ (t : List ℕ). length t ≤ bytesMost) same (leb-true (length s) bytesMost q);
+          },
+        )

@@ -1,16 +1,16 @@
 -- Laws of texts and rows by their places: what one that was read says of the bytes, and the rows one after the other.
 -- Assumes nothing.
 use mathlib.Core.Path.{_≡_, refl, sym, ap, subst, _∙_}
-use mathlib.Core.Bool.{Bool, true, false}
-use mathlib.Core.List.{List, [], _∷_}
-use Prim.Native.Nat.{ℕ, zero, suc, _+_, _-_, _*_, _≤_, _<_}
+use mathlib.Core.Bool.{true, false}
+use mathlib.Core.List.{List}
+use Prim.Native.Nat.{ℕ, suc, _+_, _-_, _≤_, _<_}
 use native.Mathlib.Numerals.{add-one}
 use native.Mathlib.Omega.{arith}
 use borrow.Author.Tests.{leb-true}
 use lib.Dec.{leb, eqb}
 use lib.ListN.{length, take, drop, set}
 use lib.Seq.{sets}
-use Rattle.words.specs.Below.{pick, both}
+use Rattle.words.specs.Below.{both}
 use Rattle.words.specs.Word.{halves}
 use Rattle.words.proofs.Below.{by-test, both-left, both-right}
 use Rattle.numbers.specs.Reading.{readingAt}
@@ -19,12 +19,11 @@ use Rattle.numbers.specs.declared.Reading.the-variants.{Number, Malformed}
 use Rattle.numbers.proofs.Inside.{Read, reading-read}
 use Rattle.catalogue.specs.Limits.{keyMost, numberMost, sizeMost}
 use Rattle.catalogue.specs.Plain.{noneZero}
-use Rattle.catalogue.specs.Places.{withNumber, withText, withRow, unitBytesOf, unitsPart, textAfterAt, textAt, rowAt, rowsEnd, placesFrom}
+use Rattle.catalogue.specs.Places.{withNumber, withText, unitBytesOf, unitsPart, textAfterAt, textAt, rowAt, rowsEnd, placesFrom}
 use Rattle.catalogue.specs.declared.Text.{Text}
 use Rattle.catalogue.specs.declared.Fields.{Fields}
 use Rattle.catalogue.specs.declared.TextAt.{TextAt}
 use Rattle.catalogue.specs.declared.TextAt.the-variants.{TextTo, NoText}
-use Rattle.catalogue.specs.declared.RowAt.{RowAt}
 use Rattle.catalogue.specs.declared.RowAt.the-variants.{RowTo, NoRow}
 
 -- an answer that is not the bad one came by what was read

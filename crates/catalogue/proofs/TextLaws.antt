@@ -2,19 +2,18 @@
 use mathlib.Core.Path.{_≡_, refl, sym, ap, _∙_}
 use mathlib.Core.Bool.{Bool, true, false, not}
 use mathlib.Core.List.{List}
-use Prim.Native.Nat.{ℕ, zero, suc, _+_, _-_, _*_, _/_, _≤_, _<_}
+use Prim.Native.Nat.{ℕ, _+_, _-_, _*_, _/_, _≤_, _<_}
 use native.Mathlib.Numerals.{add-one}
 use native.Mathlib.Omega.{arith}
 use borrow.Author.Tests.{eq-eqb, ne-eqb, le-leb, lt-leb}
-use lib.Dec.{eqb, leb}
+use lib.Dec.{eqb}
 use lib.ListN.{length, getD, take, drop}
-use Rattle.words.specs.Below.{pick, both, everyBelow}
+use Rattle.words.specs.Below.{pick, everyBelow}
 use Rattle.words.specs.Word.{numberAt, halves}
 use Rattle.words.proofs.Halves.{halves-length, halves-at}
 use Rattle.catalogue.specs.Plain.{noneZero}
 use Rattle.catalogue.specs.Places.{textAfterAt, unitBytesOf, unitsPart}
 use Rattle.catalogue.specs.declared.Text.{Text}
-use Rattle.catalogue.specs.declared.TextAt.{TextAt}
 use Rattle.catalogue.specs.declared.TextAt.the-variants.{TextTo, NoText}
 
 -- none of the first n units is zero

@@ -1,15 +1,14 @@
 -- The catalogue of 01's whole case: its seventeen bytes, its two rows, and what the check says of it.
 use mathlib.Core.Path.{_≡_, refl}
 use mathlib.Core.List.{List, [], _∷_}
-use mathlib.Core.Option.{Option, none, some}
+use mathlib.Core.Option.{none, some}
 use Prim.Native.Nat.{ℕ}
 use Rattle.words.specs.Below.{everyBelow}
 use Rattle.words.specs.Word.{halves}
-use Rattle.numbers.specs.Groups.{groups, number, groupsOf}
+use Rattle.numbers.specs.Groups.{groups, number}
 use Rattle.numbers.specs.Reading.{readingAt}
 use Rattle.catalogue.specs.Plain.{Row, text, row, rows, catalogue}
 use Rattle.catalogue.specs.Places.{textAt, rowAt, rowsEnd, placesFrom, checked, places}
-use Rattle.catalogue.specs.declared.Checked.{Checked}
 
 abbrev pub caseBytes : List ℕ
 caseBytes =

@@ -1,6 +1,6 @@
 -- The option catalogue by places in its list of bytes: what the code follows. proofs/Agree.antt shows that it says what the
 -- plain parser says.
-use mathlib.Core.Bool.{Bool, true, false}
+use mathlib.Core.Bool.{Bool, false}
 use mathlib.Core.List.{List, [], _∷_}
 use mathlib.Core.Option.{Option, none, some}
 use Prim.Native.Nat.{ℕ, zero, suc, _+_, _-_, _*_}

@@ -59,3 +59,8 @@ whole rs (b ∷ s) = none
 -- "It holds the row count (0 to 1,024), then .. each row"; "At most 1,048,576 bytes"
 unfoldable pub catalogue : List ℕ → Option (List Row)
 catalogue s = pick (leb (length s) bytesMost) (andThen (number rowsMost s) λ n s₁. andThen (rows n s₁) whole) none
+
+-- "The first returns 3 or 0": refusal 3 where the catalogue is malformed
+abbrev pub refusalOf : Option (List Row) → ℕ
+refusalOf none = 3
+refusalOf (some rs) = 0

@@ -1,13 +1,12 @@
 // The option catalogue: reading a text and a row by places, and the check of the whole.
 ghost use mathlib.Core.Path.{_≡_};
-ghost use mathlib.Core.List.{List};
-ghost use Prim.Native.Nat.{ℕ, _+_, _-_, _*_, _^_, _≤_, _<_};
-ghost use lib.ListN.{length, take, drop};
+ghost use Prim.Native.Nat.{_+_, _-_, _*_, _^_, _≤_, _<_};
+ghost use lib.ListN.{length};
 ghost use lib.Seq.{sets};
 ghost use Rattle.words.specs.Word.{halves};
 ghost use Rattle.catalogue.specs.Limits.{rowsMost, sizeMost, bytesMost};
 ghost use Rattle.catalogue.specs.Plain.{noneZero};
-ghost use Rattle.catalogue.specs.Places.{textAfterAt, textAt, rowAt, unitBytesOf, unitsPart, rowsEnd, placesFrom, counted, checked, noted};
+ghost use Rattle.catalogue.specs.Places.{textAfterAt, textAt, rowAt, unitBytesOf, unitsPart, rowsEnd, placesFrom, checked, noted};
 use numbers::Reading;
 
 pub const ROWS_MOST: u64 = 1024;

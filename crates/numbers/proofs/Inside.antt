@@ -1,18 +1,16 @@
 -- What a number that was read says of the bytes: how many it took, and that they were there. Assumes nothing.
-use mathlib.Core.Path.{_≡_, refl, sym, ap, _∙_}
+use mathlib.Core.Path.{_≡_, refl, sym}
 use mathlib.Core.List.{List, [], _∷_}
 use mathlib.Core.Option.{Option, none, some}
-use Prim.Native.Nat.{ℕ, zero, suc, _+_, _-_, _*_, _≤_, _<_}
+use Prim.Native.Nat.{ℕ, _+_, _-_, _*_, _≤_, _<_}
 use native.Mathlib.Omega.{arith}
 use borrow.Author.Tests.{eqb-false, leb-true}
 use lib.Dec.{ltb, leb, eqb}
 use lib.ListN.{length, drop, length-drop}
-use Rattle.words.specs.Below.{pick}
 use Rattle.words.proofs.Below.{by-test}
 use Rattle.words.proofs.Options.{none≢some, pair-is}
 use Rattle.numbers.specs.Groups.{groups, further, within}
 use Rattle.numbers.specs.Reading.{placed, readingAt}
-use Rattle.numbers.specs.declared.Reading.{Reading}
 use Rattle.numbers.specs.declared.Reading.the-variants.{Number, Malformed}
 
 -- what the groups after a group must have held
@@ -34,7 +32,7 @@ groups-used (b ∷ s) v n e =
     by-test (ltb b 128)
     (λ q.
     let t : some (b, 1) ≡ some (v, n) = rw q at e in
-      let m : 1 ≡ n = pair-is t .1 in
+    let m : 1 ≡ n = pair-is t .1 in
     (omega arith, omega arith))
     (λ q.
     let f = further-inv (b - 128) (groups s) v n (rw q at e) in

@@ -1,16 +1,14 @@
 -- What the writer writes reads back, and what reads is what the writer writes. Assumes nothing.
 use mathlib.Core.Path.{_≡_, refl, sym, ap, ap₂, _∙_}
-use mathlib.Core.Bool.{Bool, true, false}
 use mathlib.Core.List.{List, [], _∷_, _++_}
 use mathlib.Core.Option.{Option, none, some}
 use Prim.Native.Nat.{ℕ, zero, suc, _+_, _-_, _*_, _/_, _%_, _^_, _≤_, _<_}
 use native.Mathlib.Omega.{arith}
 use native.Mathlib.Numerals.{add-one}
-use borrow.Author.Tests.{lt-ltb, le-ltb, ltb-true, ltb-false, eq-eqb, ne-eqb, eqb-true, eqb-false, le-leb, leb-true}
-use lib.Dec.{ltb, leb, eqb}
-use lib.ListN.{length, getD, take, drop, take-append-drop}
+use borrow.Author.Tests.{lt-ltb, le-ltb, ltb-true, ltb-false, ne-eqb, le-leb, leb-true}
+use lib.Dec.{ltb, leb}
+use lib.ListN.{length, take, drop, take-append-drop}
 use lib.Seq.{drop-append-seam}
-use Rattle.words.specs.Below.{pick}
 use Rattle.words.specs.Word.{Bytes}
 use Rattle.words.proofs.Below.{by-test}
 use Rattle.words.proofs.Options.{none≢some, pair-is}
@@ -78,17 +76,18 @@ pub number-read : (limit : ℕ) (s : List ℕ) (v : ℕ) (rest : List ℕ) → l
     → (s ≡ written v ++ rest) × (v ≤ limit)
 unfolding number
 number-read limit s v rest l bytes e = go (groups s) refl e
-    where
-      go : (g : Option (ℕ × ℕ)) → groups s ≡ g → splitAfter s (within limit g) ≡ some (v, rest) → (s ≡ written v ++ rest) × (v ≤ limit)
-      go none p q = absurd (none≢some q)
-      go (some r) p q =
-          by-test (leb (r .0) limit)
-          (λ t.
-            let w : some (r .0, drop (r .1) s) ≡ some (v, rest) = rw t at q in
-            let value : r .0 ≡ v = pair-is w .0 in
-            let after : drop (r .1) s ≡ rest = pair-is w .1 in
-            let small : r .0 ≤ limit = leb-true (r .0) limit t in
-            (sym (take-append-drop (r .1) s)
-            ∙ ap₂ (λ (a b : List ℕ). a ++ b) (written-groups 9 s (r .0) (r .1) bytes p (omega arith) ∙ ap written value) after
-            , omega arith))
-          (λ t. absurd (none≢some (rw t at q)))
+  where
+    go : (g : Option (ℕ × ℕ)) → groups s ≡ g → splitAfter s (within limit g) ≡ some (v, rest) → (s ≡ written v ++ rest) × (v ≤ limit)
+    go none p q = absurd (none≢some q)
+    go (some r) p q =
+        by-test (leb (r .0) limit)
+        (λ t.
+        let w : some (r .0, drop (r .1) s) ≡ some (v, rest) = rw t at q in
+        let value : r .0 ≡ v = pair-is w .0 in
+        let after : drop (r .1) s ≡ rest = pair-is w .1 in
+        let small : r .0 ≤ limit = leb-true (r .0) limit t in (
+          sym (take-append-drop (r .1) s)
+              ∙ ap₂ (λ (a b : List ℕ). a ++ b) (written-groups 9 s (r .0) (r .1) bytes p (omega arith) ∙ ap written value) after,
+          omega arith,
+        ))
+        (λ t. absurd (none≢some (rw t at q)))

@@ -1,8 +1,7 @@
 -- The numbers M1 to M4 of 01, as theorems of the definitions: the parser reads them and the writer writes them.
 use mathlib.Core.Path.{_≡_, refl}
-use mathlib.Core.List.{List, [], _∷_}
-use mathlib.Core.Option.{Option, none, some}
-use Prim.Native.Nat.{ℕ}
+use mathlib.Core.List.{[], _∷_}
+use mathlib.Core.Option.{none, some}
 use Rattle.numbers.specs.Groups.{groups, groupsOf, number, written}
 
 pub m1 : (number 0xffff_ffff (0x7f ∷ []) ≡ some (127, [])) × (written 127 ≡ 0x7f ∷ [])

@@ -1,12 +1,12 @@
 -- Laws of little-endian numbers: one step of a number at a place, and the two widths that the code reads. Assumes nothing.
-use mathlib.Core.Path.{_≡_, refl, sym, ap, _∙_}
+use mathlib.Core.Path.{_≡_, refl, ap, _∙_}
 use mathlib.Core.List.{List, [], _∷_}
-use Prim.Native.Nat.{ℕ, zero, suc, _+_, _*_, _-_, _/_, _≤_, _<_}
+use Prim.Native.Nat.{ℕ, zero, suc, _+_, _*_, _-_, _/_, _<_}
 use native.Mathlib.Nat.{add-suc}
 use native.Mathlib.Numerals.{add-one}
 use native.Mathlib.Omega.{arith}
 use lib.ListN.{length, getD, take, drop, length-drop}
-use lib.Seq.{take-nil, drop-nil, take-all}
+use lib.Seq.{take-nil, take-all}
 use Rattle.words.specs.Word.{number, numberAt}
 use Rattle.words.specs.Checksum.{sumOfWords, bodySum}
 

@@ -1,3 +1,4 @@
+-- `catalogue::check` meets its contract: the size, the row count and the rows decide, each by a law. Assumes nothing.
 use borrow.Author.Needs.{needs}
 use Rattle.catalogue.proofs.check.Statement.{statement}
 use Rattle.catalogue.proofs.check.Tie as tie

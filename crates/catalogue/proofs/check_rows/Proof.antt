@@ -1,3 +1,4 @@
+-- `catalogue::check_rows` meets its contract. The loop's invariant says what is left: the rows from the present place on, and their places over the array. Assumes nothing.
 use Rattle.catalogue.proofs.check_rows.Statement.{statement}
 use Rattle.catalogue.proofs.check_rows.Tie as tie
 use borrow.Author.Needs.{needs}

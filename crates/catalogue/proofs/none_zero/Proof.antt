@@ -1,3 +1,4 @@
+-- `catalogue::none_zero` meets its contract. The loop's invariant: the flag says that none of the first i units is zero. Assumes nothing.
 use Rattle.catalogue.proofs.none_zero.Statement.{statement}
 use Rattle.catalogue.proofs.none_zero.Tie as tie
 use borrow.Author.Needs.{needs}

@@ -1,3 +1,4 @@
+-- `catalogue::read_row` meets its contract: at each return the answers so far pick the case of `rowAt`. Assumes nothing.
 use borrow.Author.Needs.{needs}
 use Rattle.catalogue.proofs.read_row.Statement.{statement}
 use Rattle.catalogue.proofs.read_row.Tie as tie

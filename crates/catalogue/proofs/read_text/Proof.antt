@@ -1,3 +1,4 @@
+-- `catalogue::read_text` meets its contract: the size that was read is small, and its place is within the bytes. Assumes nothing.
 use borrow.Author.Needs.{needs}
 use Rattle.catalogue.proofs.read_text.Statement.{statement}
 use Rattle.catalogue.proofs.read_text.Tie as tie

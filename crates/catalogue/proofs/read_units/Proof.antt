@@ -1,3 +1,4 @@
+-- `catalogue::read_units` meets its contract: the units run past the end, or they are a part whose zero units decide. Assumes nothing.
 use borrow.Author.Needs.{needs}
 use Rattle.catalogue.proofs.read_units.Statement.{statement}
 use Rattle.catalogue.proofs.read_units.Tie as tie

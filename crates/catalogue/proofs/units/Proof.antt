@@ -1,3 +1,4 @@
+-- `catalogue::units` meets its contract: from the start to the end are the bytes of the units. Assumes nothing.
 use borrow.Author.Needs.{needs}
 use Rattle.catalogue.proofs.units.Statement.{statement}
 use Rattle.catalogue.proofs.units.Tie as tie

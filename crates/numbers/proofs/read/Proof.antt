@@ -1,3 +1,4 @@
+-- `numbers::read` meets its contract: the first byte decides which way reading goes, and each way is a law. Assumes nothing.
 use borrow.Author.Needs.{needs}
 use Rattle.numbers.proofs.read.Statement.{statement}
 use Rattle.numbers.proofs.read.Tie as tie

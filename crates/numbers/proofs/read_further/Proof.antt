@@ -1,3 +1,4 @@
+-- `numbers::read_further` meets its contract. The loop's invariant says what is left: the groups to come, carried with the value, the weight and the room so far. Assumes nothing.
 use Rattle.numbers.proofs.read_further.Statement.{statement}
 use Rattle.numbers.proofs.read_further.Tie as tie
 use borrow.Author.Needs.{needs}

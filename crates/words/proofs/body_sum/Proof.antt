@@ -1,16 +1,12 @@
+-- `words::body_sum` meets its contract. The loop's invariant: the sum is that of the first k words; then nothing is left, or one short word. Assumes nothing.
 use Rattle.words.proofs.body_sum.Statement.{statement}
 use Rattle.words.proofs.body_sum.Tie as tie
-use Rattle.words.proofs.body_sum.Reads as reads
-use Rattle.words.proofs.body_sum.Lts as lts
-use Rattle.words.proofs.last_word.Reads as last-word-reads
-use Rattle.words.proofs.word.Reads as word-reads
 use borrow.Author.Needs.{needs}
 use mathlib.Core.Path.{_≡_}
-use Prim.Native.Nat.{_≤_, _*_, _-_}
+use Prim.Native.Nat.{_≤_, _*_, _-_, _/_}
 use native.Mathlib.Omega.{arith}
 use lib.ListN.{length}
-use Rattle.words.specs.Checksum.{sumOfWords, bodySum}
-use Prim.Native.Nat.{_≤_, _*_, _-_, _/_}
+use Rattle.words.specs.Checksum.{sumOfWords}
 use Rattle.words.proofs.Words.{sum-more, sum-whole, sum-short}
 
 abbrev Inv-loop : tie.InvT-loop

@@ -1,10 +1,7 @@
+-- `words::byte_or_zero` meets its contract: past the end a list's element is taken as zero. Assumes nothing.
 use borrow.Author.Needs.{needs}
 use Rattle.words.proofs.byte_or_zero.Statement.{statement}
 use Rattle.words.proofs.byte_or_zero.Tie as tie
-use Rattle.words.proofs.byte_or_zero.Reads as reads
-use Rattle.words.proofs.byte_or_zero.Lts as lts
-use Rattle.words.proofs.byte.Reads as byte-reads
-use native.Mathlib.Omega.{arith}
 use mathlib.Core.Path.{sym}
 use lib.ListN.{List·getD-eq-default}
 

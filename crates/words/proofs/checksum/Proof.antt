@@ -1,10 +1,7 @@
+-- `words::checksum` meets its contract: each of the two tests of the size picks its case. Assumes nothing.
 use borrow.Author.Needs.{needs}
 use Rattle.words.proofs.checksum.Statement.{statement}
 use Rattle.words.proofs.checksum.Tie as tie
-use Rattle.words.proofs.checksum.Reads as reads
-use Rattle.words.proofs.checksum.Lts as lts
-use Rattle.words.proofs.checksum_of.Reads as checksum-of-reads
-use native.Mathlib.Omega.{arith}
 use borrow.Author.Tests.{lt-leb, le-leb}
 use Rattle.words.specs.Checksum.{checksumTold}
 

@@ -1,15 +1,12 @@
+-- `words::checksum_of` meets its contract: the part after the header is the list without its first sixteen bytes. Assumes nothing.
 use borrow.Author.Needs.{needs}
 use Rattle.words.proofs.checksum_of.Statement.{statement}
 use Rattle.words.proofs.checksum_of.Tie as tie
-use Rattle.words.proofs.checksum_of.Reads as reads
-use Rattle.words.proofs.checksum_of.Lts as lts
-use Rattle.words.proofs.body_sum.Reads as body-sum-reads
-use Rattle.words.proofs.word.Reads as word-reads
 use native.Mathlib.Omega.{arith}
 use lib.Bits.{xor-lt}
 use Prim.Native.Nat.{_%_}
 use Rattle.words.proofs.Words.{rest}
-use Rattle.words.specs.Checksum.{checksum, bodySum}
+use Rattle.words.specs.Checksum.{checksum}
 
 sub-body-sum : tie.Need-sub-body-sum
 sub-body-sum c = search needs

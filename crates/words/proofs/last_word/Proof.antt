@@ -1,9 +1,7 @@
+-- `words::last_word` meets its contract as `word` does, with zero for each byte past the end. Assumes nothing.
 use borrow.Author.Needs.{needs}
 use Rattle.words.proofs.last_word.Statement.{statement}
 use Rattle.words.proofs.last_word.Tie as tie
-use Rattle.words.proofs.last_word.Reads as reads
-use Rattle.words.proofs.last_word.Lts as lts
-use Rattle.words.proofs.byte_or_zero.Reads as byte-or-zero-reads
 use native.Mathlib.Omega.{arith}
 use Rattle.words.proofs.Words.{word-at}
 

@@ -1,9 +1,7 @@
+-- `words::word` meets its contract: the number of four bytes, each at its weight. Assumes nothing.
 use borrow.Author.Needs.{needs}
 use Rattle.words.proofs.word.Statement.{statement}
 use Rattle.words.proofs.word.Tie as tie
-use Rattle.words.proofs.word.Reads as reads
-use Rattle.words.proofs.word.Lts as lts
-use Rattle.words.proofs.byte.Reads as byte-reads
 use native.Mathlib.Omega.{arith}
 use Rattle.words.proofs.Words.{word-at}
 
