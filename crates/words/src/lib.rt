@@ -24,9 +24,17 @@ pub fn half(s: &[u8], at: usize) -> u32
     requires { ⌜ at + 2 ≤ length (now s) ⌝ }
     ensures { λ r. ⌜ r ≡ numberAt 2 (now (s .entry)) at ⌝ }
 {
-    let a = byte(s, at);
-    let b = byte(s, at + 1);
-    a + b * 256
+    let low = byte(s, at);
+    let high = byte(s, at + 1);
+    low + high * 256
+}
+
+// Four bytes as a word, the first of them lowest.
+fn joined(a: u32, b: u32, c: u32, d: u32) -> u32
+    requires { ⌜ (a < 256) × (b < 256) × (c < 256) × (d < 256) ⌝ }
+    ensures { λ r. ⌜ r ≡ a + b * 256 + c * 65536 + d * 16777216 ⌝ }
+{
+    a + b * 256 + c * 65536 + d * 16777216
 }
 
 // The 32-bit word at a place.
@@ -38,7 +46,7 @@ pub fn word(s: &[u8], at: usize) -> u32
     let b = byte(s, at + 1);
     let c = byte(s, at + 2);
     let d = byte(s, at + 3);
-    a + b * 256 + c * 65536 + d * 16777216
+    joined(a, b, c, d)
 }
 
 // A byte, or zero past the end.
@@ -60,7 +68,7 @@ fn last_word(s: &[u8], at: usize) -> u32
     let b = byte_or_zero(s, at + 1);
     let c = byte_or_zero(s, at + 2);
     let d = byte_or_zero(s, at + 3);
-    a + b * 256 + c * 65536 + d * 16777216
+    joined(a, b, c, d)
 }
 
 // The words after the header, added up.

@@ -1,8 +1,8 @@
 -- `words::half` meets its contract: the number of two bytes is the first and 256 times the second. Assumes nothing.
-use native.Mathlib.Omega.{arith}
 use borrow.Author.Needs.{needs}
 use Rattle.words.proofs.half.Statement.{statement}
 use Rattle.words.proofs.half.Tie as tie
+use native.Mathlib.Omega.{arith}
 use Rattle.words.proofs.Words.{half-at}
 
 byte-requires : tie.Need-byte-requires

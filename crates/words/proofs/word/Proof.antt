@@ -26,26 +26,11 @@ add-byte-3 c = search needs
 byte-requires-4 : tie.Need-byte-requires-4
 byte-requires-4 c κs = search needs
 
-mul-result : tie.Need-mul-result
-mul-result c = search needs
-
-add-result : tie.Need-add-result
-add-result c = search needs
-
-mul-result-2 : tie.Need-mul-result-2
-mul-result-2 c = search needs
-
-add-result-2 : tie.Need-add-result-2
-add-result-2 c = search needs
-
-mul-result-3 : tie.Need-mul-result-3
-mul-result-3 c = search needs
-
-add-result-3 : tie.Need-add-result-3
-add-result-3 c = search needs
+joined-requires : tie.Need-joined-requires
+joined-requires c κs = search needs
 
 returns : tie.Need-returns
-returns c = let a = c .before .before .before .before .before .args in omega (arith, word-at (a .s .now) (a .at))
+returns c = let a = c .before .before .before .before .before .before .args in omega (arith, word-at (a .s .now) (a .at))
 
 pub word-spec : {M : Type 1} → statement M
 word-spec =
@@ -58,10 +43,5 @@ word-spec =
     byte-requires-3
     add-byte-3
     byte-requires-4
-    mul-result
-    add-result
-    mul-result-2
-    add-result-2
-    mul-result-3
-    add-result-3
+    joined-requires
     returns)
