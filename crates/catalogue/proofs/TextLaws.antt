@@ -10,6 +10,7 @@ use lib.Dec.{eqb}
 use lib.ListN.{length, getD, take, drop}
 use Rattle.words.specs.Below.{pick, everyBelow}
 use Rattle.words.specs.Word.{numberAt, halves}
+use Rattle.words.proofs.Below.{every-next, every-next-not}
 use Rattle.words.proofs.Halves.{halves-length, halves-at}
 use Rattle.catalogue.specs.Plain.{noneZero}
 use Rattle.catalogue.specs.Places.{textAfterAt, unitBytesOf, unitsPart}
@@ -20,17 +21,11 @@ use Rattle.catalogue.specs.declared.TextAt.the-variants.{TextTo, NoText}
 abbrev pub clearBelow : ℕ → List ℕ → Bool
 clearBelow n units = everyBelow n (λ i. not (eqb (getD (halves units) i 0) 0))
 
-pub clear-none : (units : List ℕ) → clearBelow 0 units ≡ true
-unfolding everyBelow
-clear-none units = refl
-
 pub clear-zero : (n : ℕ) (units : List ℕ) → 2 * n + 1 < length units → numberAt 2 units (2 * n) ≡ 0 → clearBelow (n + 1) units ≡ false
-unfolding everyBelow
-clear-zero n units h e = rw (add-one, eq-eqb (getD (halves units) n 0) 0 (halves-at units n h ∙ e))
+clear-zero n units h e = every-next-not n _ (rw (eq-eqb (getD (halves units) n 0) 0 (halves-at units n h ∙ e)))
 
 pub clear-more : (n : ℕ) (units : List ℕ) → 2 * n + 1 < length units → (numberAt 2 units (2 * n) ≡ 0 → ⊥) → clearBelow (n + 1) units ≡ clearBelow n units
-unfolding everyBelow
-clear-more n units h e = rw (add-one, ne-eqb (getD (halves units) n 0) 0 (λ z. e (sym (halves-at units n h) ∙ z)))
+clear-more n units h e = every-next n _ (rw (ne-eqb (getD (halves units) n 0) 0 (λ z. e (sym (halves-at units n h) ∙ z))))
 
 pub clear-all : (n : ℕ) (units : List ℕ) → n ≡ length units / 2 → clearBelow n units ≡ noneZero (halves units)
 clear-all n units e = ap (λ (k : ℕ). clearBelow k units) (e ∙ sym (halves-length units))

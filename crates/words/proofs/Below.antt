@@ -2,8 +2,9 @@
 use mathlib.Core.Path.{_≡_, refl, sym, ap, _∙_}
 use mathlib.Core.Bool.{Bool, true, false}
 use mathlib.Core.Logic.{_⊎_, ⊎-elim}
-use Prim.Native.Nat.{ℕ, zero, suc, _<_}
+use Prim.Native.Nat.{ℕ, zero, suc, _+_, _<_}
 use native.Mathlib.Nat.{not-suc-le-zero, le-of-suc-le-suc, eq-or-lt-of-le}
+use native.Mathlib.Numerals.{add-one}
 use native.Mathlib.Omega.{arith}
 use Rattle.words.specs.Below.{both, someBelow, everyBelow}
 
@@ -69,3 +70,23 @@ some-none (suc n) test f = rw (f n (omega arith)) (some-none n test (λ k h. f k
 
 pub every-broken : (n : ℕ) (test : ℕ → Bool) (k : ℕ) → k < n → test k ≡ false → everyBelow n test ≡ false
 every-broken n test k h e = by-test (everyBelow n test) (λ q. absurd (true≢false (sym (every-at n test q k h) ∙ e))) (λ q. q)
+
+-- one number more: what a loop that goes on has
+pub every-next : (n : ℕ) (test : ℕ → Bool) → test n ≡ true → everyBelow (n + 1) test ≡ everyBelow n test
+unfolding everyBelow
+every-next n test e = rw (add-one, e)
+
+pub every-next-not : (n : ℕ) (test : ℕ → Bool) → test n ≡ false → everyBelow (n + 1) test ≡ false
+unfolding everyBelow
+every-next-not n test e = rw (add-one, e)
+
+pub every-start : (test : ℕ → Bool) → everyBelow 0 test ≡ true
+unfolding everyBelow
+every-start test = refl
+
+-- one test after another: the first fails, or the others decide
+pub both-stop : {a : Bool} (b : Bool) → a ≡ false → both a b ≡ false
+both-stop b e = rw e
+
+pub both-go : {a : Bool} (b : Bool) → a ≡ true → both a b ≡ b
+both-go b e = rw e

@@ -6,7 +6,8 @@ use mathlib.Core.Path.{_≡_, sym, _∙_}
 use mathlib.Core.Logic.{⊎-elim}
 use Prim.Native.Nat.{_≤_, _-_, _/_}
 use lib.ListN.{length}
-use Rattle.catalogue.proofs.TextLaws.{clearBelow, clear-none, clear-zero, clear-more, clear-all}
+use Rattle.words.proofs.Below.{every-start}
+use Rattle.catalogue.proofs.TextLaws.{clearBelow, clear-zero, clear-more, clear-all}
 
 abbrev Inv-loop : tie.InvT-loop
 Inv-loop units count clear₀ i₀ clear i = (i ≤ count) × (count ≡ length units / 2) × (clear ≡ clearBelow i units)
@@ -15,7 +16,7 @@ abbrev μ-loop : tie.MeasureT-loop
 μ-loop units count clear₀ i₀ clear i = count - i
 
 loop-holds : tie.Need-loop-holds Inv-loop μ-loop
-loop-holds c = (search needs, search needs, sym (clear-none (c .before .args .units .now)))
+loop-holds c = (search needs, search needs, sym (every-start _))
 
 mul-half : tie.Need-mul-half Inv-loop μ-loop
 mul-half c = search needs

@@ -1,0 +1,5 @@
+pub mod Each
+pub mod Column
+pub mod Fit
+pub mod Spans
+pub mod Sound

@@ -1,0 +1,62 @@
+-- What a seat and a cursor are, and the words that hold them (01: "Sessions live in a lent table of 32-bit words, row numbers
+-- of each selection included").
+use mathlib.Core.List.{List, [], _∷_, _++_}
+use mathlib.Core.Option.{Option, none, some}
+use Prim.Native.Nat.{ℕ, _-_}
+use lib.Dec.{eqb}
+use lib.ListN.{length, getD, take, drop, replicate}
+use Rattle.words.specs.Below.{pick}
+use Rattle.columns.specs.Column.{columnsOf, wordsOf}
+use Rattle.columns.specs.declared.Column.{Column}
+use Rattle.sessions.specs.Layout.{seatSize, cursorSize, connectedAt, versionAt, firstAt, secondAt, openAt, positionAt, countAt, columnsAt, widthAt, recordsAt, recordsSize, rowsAt, rowsSize, part}
+
+-- an open cursor: how many rows it has carried, the row numbers it selects, and its bindings (no columns: none yet)
+pub record Cursor : Type 0 where
+  pub position : ℕ
+  pub selection : List ℕ
+  pub width : ℕ
+  pub columns : List Column
+
+-- a connected seat: its client version and its cursors, handles 1 and 2
+pub record Seat : Type 0 where
+  pub version : ℕ
+  pub first : Option Cursor
+  pub second : Option Cursor
+
+abbrev pub zeros : ℕ → List ℕ
+zeros n = replicate n 0
+
+-- the words of a cursor; "a word not in use (closed cursor, .. past a list's end)" is zero
+abbrev pub cursorBlock : Option Cursor → List ℕ
+cursorBlock none = zeros cursorSize
+cursorBlock (some c) =
+    1 ∷ c .position ∷ length (c .selection) ∷ length (c .columns) ∷ c .width
+    ∷ (wordsOf (c .columns) ++ (c .selection ++ zeros (rowsSize - length (c .selection))))
+
+-- the words of a seat; those of an unconnected one are zero
+abbrev pub seatBlock : Option Seat → List ℕ
+seatBlock none = zeros seatSize
+seatBlock (some s) = 1 ∷ s .version ∷ (cursorBlock (s .first) ++ cursorBlock (s .second))
+
+-- the cursor and the seat that words hold
+abbrev pub cursorHeld : List ℕ → Cursor
+cursorHeld b =
+    record
+    { position = getD b positionAt 0
+    ; selection = take (getD b countAt 0) (drop rowsAt b)
+    ; width = getD b widthAt 0
+    ; columns = columnsOf (getD b columnsAt 0) (part b recordsAt recordsSize)
+    }
+
+abbrev pub cursorOf : List ℕ → Option Cursor
+cursorOf b = pick (eqb (getD b openAt 0) 0) none (some (cursorHeld b))
+
+abbrev pub seatOf : List ℕ → Option Seat
+seatOf b =
+    pick (eqb (getD b connectedAt 0) 0) none
+    (some
+    (record
+    { version = getD b versionAt 0
+    ; first = cursorOf (part b firstAt cursorSize)
+    ; second = cursorOf (part b secondAt cursorSize)
+    }))
