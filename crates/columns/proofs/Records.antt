@@ -53,6 +53,7 @@ kept-next p k c e h =
   where
     next : 45 - 9 * (k + 1) ≡ 45 - 9 * k - 9
     next = omega arith
+
     after : drop (9 * k + 9) (p ++ zeros (45 - 9 * k)) ≡ zeros (45 - 9 * k - 9)
     after =
         ap (λ (n : ℕ). drop (n + 9) (p ++ zeros (45 - 9 * k))) (sym e)
@@ -114,10 +115,10 @@ read-after [] k p q e = refl
 read-after (c ∷ s) k p q e =
     ap (λ (d : Column). d ∷ columnsFrom (length s) (k + 1) (p ++ (recordOf c ++ recordsOf s ++ q))) (column-part p (recordOf c ++ recordsOf s ++ q) k e)
     ∙ ap (λ (l : List ℕ). c ∷ columnsFrom (length s) (k + 1) l)
-        (ap (λ (l : List ℕ). p ++ l) (append-assoc (recordOf c) (recordsOf s) q) ∙ sym (append-assoc p (recordOf c) (recordsOf s ++ q)))
+    (ap (λ (l : List ℕ). p ++ l) (append-assoc (recordOf c) (recordsOf s) q) ∙ sym (append-assoc p (recordOf c) (recordsOf s ++ q)))
     ∙ ap (λ (l : List Column). c ∷ l) (read-after s (k + 1) (p ++ recordOf c) q (length-append p (recordOf c) ∙ omega arith))
 
-records-length : (s : List Column) → length (recordsOf s) ≡ 9 * length s
+pub records-length : (s : List Column) → length (recordsOf s) ≡ 9 * length s
 unfolding recordsOf
 records-length [] = refl
 records-length (c ∷ s) = length-append (recordOf c) (recordsOf s) ∙ omega (arith, records-length s)

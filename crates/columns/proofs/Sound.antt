@@ -70,5 +70,5 @@ fit-sound width columns e =
       typed = λ k h. ltb-true 0 (size k) (parts (column columns k) (each k h) .1);
       sized = λ k h. sized-used (size k) (column columns k .value) (parts (column columns k) (each k h) .2);
       inside = λ i h. leb-true (span columns i .place + span columns i .size) width (every-index (inside width) (spansOf columns) _ lie i h);
-      apart = λ i j h b. shares (span columns i) (span columns j) (pair-index apart (spansOf columns) _ clear i j h b)
+      apart = λ i j h b. shares (span columns i) (span columns j) (pair-index apart (spansOf columns) _ clear i j h b);
     }

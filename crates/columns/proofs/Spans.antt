@@ -102,5 +102,6 @@ spans-by-index (suc n) k words =
   where
     three : 3 * suc n ≡ suc (suc (suc (3 * n)))
     three = omega arith
+
     next : 3 * (k + 1) ≡ 3 * k + 1 + 1 + 1
     next = omega arith

@@ -15,7 +15,7 @@ columnAt words k =
       vtype = getD words (9 * k + 1) 0;
       value = record { used = getD words (9 * k + 2) 0; offset = getD words (9 * k + 3) 0; size = getD words (9 * k + 4) 0 };
       status = record { used = getD words (9 * k + 5) 0; offset = getD words (9 * k + 6) 0 };
-      length = record { used = getD words (9 * k + 7) 0; offset = getD words (9 * k + 8) 0 }
+      length = record { used = getD words (9 * k + 7) 0; offset = getD words (9 * k + 8) 0 };
     }
 
 -- n columns from the k-th on

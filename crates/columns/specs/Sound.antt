@@ -16,7 +16,7 @@ column columns k =
       vtype = 0;
       value = record { used = 0; offset = 0; size = 0 };
       status = record { used = 0; offset = 0 };
-      length = record { used = 0; offset = 0 }
+      length = record { used = 0; offset = 0 };
     })
 
 abbrev pub span : List Column → ℕ → Span

@@ -30,6 +30,6 @@ flag-bad flag unset set z o = rw (ne-eqb flag 0 z, ne-eqb flag 1 o)
 -- what is lent from a place to the place n further on is a part of n words
 pub part-is : (t : List ℕ) (at n : ℕ) → take (at + n - at) (drop at t) ≡ part t at n
 part-is t at n = ap (λ (k : ℕ). take k (drop at t)) same
-    where
-      same : at + n - at ≡ n
-      same = omega arith
+  where
+    same : at + n - at ≡ n
+    same = omega arith

@@ -1,1 +1,5 @@
 pub mod Judging
+pub mod Blocks
+pub mod Shown
+pub mod Seats
+pub mod Tables

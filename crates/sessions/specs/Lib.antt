@@ -1,3 +1,4 @@
 pub mod Layout
 pub mod Seat
 pub mod Well
+pub mod Fits

@@ -41,11 +41,11 @@ seatBlock (some s) = 1 ∷ s .version ∷ (cursorBlock (s .first) ++ cursorBlock
 -- the cursor and the seat that words hold
 abbrev pub cursorHeld : List ℕ → Cursor
 cursorHeld b =
-    record
-    { position = getD b positionAt 0
-    ; selection = take (getD b countAt 0) (drop rowsAt b)
-    ; width = getD b widthAt 0
-    ; columns = columnsOf (getD b columnsAt 0) (part b recordsAt recordsSize)
+    record {
+      position = getD b positionAt 0;
+      selection = take (getD b countAt 0) (drop rowsAt b);
+      width = getD b widthAt 0;
+      columns = columnsOf (getD b columnsAt 0) (part b recordsAt recordsSize);
     }
 
 abbrev pub cursorOf : List ℕ → Option Cursor
@@ -55,8 +55,8 @@ abbrev pub seatOf : List ℕ → Option Seat
 seatOf b =
     pick (eqb (getD b connectedAt 0) 0) none
     (some
-    (record
-    { version = getD b versionAt 0
-    ; first = cursorOf (part b firstAt cursorSize)
-    ; second = cursorOf (part b secondAt cursorSize)
+    (record {
+      version = getD b versionAt 0;
+      first = cursorOf (part b firstAt cursorSize);
+      second = cursorOf (part b secondAt cursorSize);
     }))

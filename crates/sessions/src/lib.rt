@@ -10,20 +10,35 @@ ghost use Rattle.sessions.specs.Seat.{cursorOf, seatOf};
 ghost use Rattle.sessions.specs.Well.{allZero, rising, flagged, tidy, boundWell, bindingsWell, selectionWell, openWell, cursorWell, seatWell, tableWell, cursorBelow, seatBelow, tableBelow};
 
 pub const SEATS: u32 = 8;
+
 pub const TABLE_SIZE: usize = 17200;
+
 const SEAT_SIZE: usize = 2150;
+
 const CURSOR_SIZE: usize = 1074;
+
 const FIRST: usize = 2;
+
 const SECOND: usize = 1076;
+
 const CONNECTED: usize = 0;
+
 const VERSION: usize = 1;
+
 const OPEN: usize = 0;
+
 const POSITION: usize = 1;
+
 const COUNT: usize = 2;
+
 const COLUMNS: usize = 3;
+
 const WIDTH: usize = 4;
+
 const RECORDS: usize = 5;
+
 const ROWS: usize = 50;
+
 const ROWS_SIZE: u32 = 1024;
 
 // Every word is zero. There is no early return, so that many words are looked at in one step.

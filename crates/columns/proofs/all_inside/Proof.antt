@@ -50,10 +50,11 @@ loop-less c = search needs
 loop-again : tie.Need-loop-again Inv-loop μ-loop
 loop-again c = let l = c .before .before .before .before .loop in
     let a = c .before .before .before .before .before .before .args in
-    let s = c .before .before .span-at .result in
-    (omega arith,
-    l .inv .1 ∙ each-more (l .left) (l .i) (a .words .now) (c .before .before .before .loop-test .taken) (inside (a .width)) (inside-none (a .width))
-    (sym (ap (inside (a .width)) (c .before .before .span-at .ensures)) ∙ le-leb (s .place + s .size) (a .width) (omega arith)))
+    let s = c .before .before .span-at .result in (
+      omega arith,
+      l .inv .1 ∙ each-more (l .left) (l .i) (a .words .now) (c .before .before .before .loop-test .taken) (inside (a .width)) (inside-none (a .width))
+          (sym (ap (inside (a .width)) (c .before .before .span-at .ensures)) ∙ le-leb (s .place + s .size) (a .width) (omega arith)),
+    )
 
 returns-2 : tie.Need-returns-2 Inv-loop μ-loop
 returns-2 c = let l = c .before .loop in

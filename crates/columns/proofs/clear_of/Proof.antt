@@ -48,10 +48,11 @@ loop-less c = search needs
 
 loop-again : tie.Need-loop-again Inv-loop μ-loop
 loop-again c = let l = c .before .before .before .before .loop in
-    let a = c .before .before .before .before .before .before .args in
-    (omega arith,
-    l .inv .1 ∙ each-more (l .left) (l .i) (a .words .now) (c .before .before .before .loop-test .taken) (apart (a .a)) (apart-none (a .a))
-    (sym (c .before .apart .ensures ∙ ap (apart (a .a)) (c .before .before .span-at .ensures)) ∙ not-false _ (c .if1 .left)))
+    let a = c .before .before .before .before .before .before .args in (
+      omega arith,
+      l .inv .1 ∙ each-more (l .left) (l .i) (a .words .now) (c .before .before .before .loop-test .taken) (apart (a .a)) (apart-none (a .a))
+          (sym (c .before .apart .ensures ∙ ap (apart (a .a)) (c .before .before .span-at .ensures)) ∙ not-false _ (c .if1 .left)),
+    )
 
 returns-2 : tie.Need-returns-2 Inv-loop μ-loop
 returns-2 c = let l = c .before .loop in

@@ -39,8 +39,12 @@ all-inside-requires c κs = search needs
 returns-3 : tie.Need-returns-3
 unfolding columnsFit
 returns-3 c = let a = c .before .before .before .before .before .before .before .args in
-    rw (sym (c .before .before .before .before .before .columns-fit .ensures) ∙ not-false _ (c .before .before .before .before .if1 .left), sym (c .before .before .before .bound-once .ensures) ∙ not-false _ (c .before .before .if2 .left),
-    spans-by-index (a .count) 0 (a .words .now), sym (c .before .all-inside .ensures) ∙ not-true _ (c .if3 .taken))
+    rw (
+      sym (c .before .before .before .before .before .columns-fit .ensures) ∙ not-false _ (c .before .before .before .before .if1 .left),
+      sym (c .before .before .before .bound-once .ensures) ∙ not-false _ (c .before .before .if2 .left),
+      spans-by-index (a .count) 0 (a .words .now),
+      sym (c .before .all-inside .ensures) ∙ not-true _ (c .if3 .taken),
+    )
 
 none-meet-requires : tie.Need-none-meet-requires
 none-meet-requires c κs = search needs
@@ -48,8 +52,12 @@ none-meet-requires c κs = search needs
 returns-4 : tie.Need-returns-4
 unfolding columnsFit
 returns-4 c = let a = c .before .before .before .before .before .before .before .before .args in
-    rw (sym (c .before .before .before .before .before .before .columns-fit .ensures) ∙ not-false _ (c .before .before .before .before .before .if1 .left), sym (c .before .before .before .before .bound-once .ensures) ∙ not-false _ (c .before .before .before .if2 .left),
-    spans-by-index (a .count) 0 (a .words .now), sym (c .before .before .all-inside .ensures) ∙ not-false _ (c .before .if3 .left)) (c .none-meet .ensures)
+    rw (
+      sym (c .before .before .before .before .before .before .columns-fit .ensures) ∙ not-false _ (c .before .before .before .before .before .if1 .left),
+      sym (c .before .before .before .before .bound-once .ensures) ∙ not-false _ (c .before .before .before .if2 .left),
+      spans-by-index (a .count) 0 (a .words .now),
+      sym (c .before .before .all-inside .ensures) ∙ not-false _ (c .before .if3 .left),
+    ) (c .none-meet .ensures)
 
 pub columns-for-spec : {M : Type 1} → statement M
 columns-for-spec =

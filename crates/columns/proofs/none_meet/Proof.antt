@@ -50,10 +50,11 @@ loop-less c = search needs
 
 loop-again : tie.Need-loop-again Inv-loop μ-loop
 loop-again c = let l = c .before .before .before .before .loop in
-    let words = c .before .before .before .before .before .before .args .words .now in
-    (omega arith,
-    l .inv .1 ∙ two-more (l .left) (l .i) words (c .before .before .before .loop-test .taken)
-    (rw (← c .before .before .span-at .ensures) (sym (c .before .clear-of .ensures) ∙ not-false _ (c .if1 .left))))
+    let words = c .before .before .before .before .before .before .args .words .now in (
+      omega arith,
+      l .inv .1 ∙ two-more (l .left) (l .i) words (c .before .before .before .loop-test .taken)
+          (rw (← c .before .before .span-at .ensures) (sym (c .before .clear-of .ensures) ∙ not-false _ (c .if1 .left))),
+    )
 
 returns-2 : tie.Need-returns-2 Inv-loop μ-loop
 returns-2 c = let l = c .before .loop in

@@ -51,11 +51,12 @@ loop-less c = search needs
 
 loop-again : tie.Need-loop-again Inv-loop μ-loop
 loop-again c = let l = c .before .before .before .loop in
-    let a = c .before .before .before .before .args in
-    (omega arith,
-    l .inv .1
-    ∙ every-more (unlike (a .property)) (from-more (l .left) (l .k) (a .words .now) (c .before .before .loop-test .taken))
-    (rw (ne-eqb (a .property) (getD (a .words .now) (9 * l .k) 0) (λ e. c .if1 .left (sym e)))))
+    let a = c .before .before .before .before .args in (
+      omega arith,
+      l .inv .1
+          ∙ every-more (unlike (a .property)) (from-more (l .left) (l .k) (a .words .now) (c .before .before .loop-test .taken))
+          (rw (ne-eqb (a .property) (getD (a .words .now) (9 * l .k) 0) (λ e. c .if1 .left (sym e)))),
+    )
 
 returns-2 : tie.Need-returns-2 Inv-loop μ-loop
 returns-2 c = let l = c .before .loop in

@@ -45,10 +45,11 @@ loop-less c = search needs
 
 loop-again : tie.Need-loop-again Inv-loop μ-loop
 loop-again c = let l = c .before .before .before .loop in
-    let records = c .before .before .before .before .before .args .records .now in
-    (search needs
-    , l .inv .1
-    ∙ every-more tidy (from-more (l .left) (l .k) records (c .before .before .loop-test .taken)) (sym (c .before .tidy .ensures) ∙ not-false _ (c .if1 .left)))
+    let records = c .before .before .before .before .before .args .records .now in (
+      search needs,
+      l .inv .1
+          ∙ every-more tidy (from-more (l .left) (l .k) records (c .before .before .loop-test .taken)) (sym (c .before .tidy .ensures) ∙ not-false _ (c .if1 .left)),
+    )
 
 returns-2 : tie.Need-returns-2 Inv-loop μ-loop
 returns-2 c = let l = c .before .loop in

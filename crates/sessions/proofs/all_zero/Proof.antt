@@ -38,12 +38,13 @@ loop-less c = search needs
 
 loop-again : tie.Need-loop-again Inv-loop μ-loop
 loop-again c =
-    let l = c .before .before .before .loop in
-    (search needs
-    , ⊎-elim
-      (λ w. w .1 ∙ sym (every-next-not (l .i) _ (ne-eqb _ 0 (w .0 .taken))))
-      (λ w. w .1 ∙ l .inv .1 ∙ sym (every-next (l .i) _ (eq-eqb _ 0 (w .0 .left))))
-      (c .if1 .came))
+    let l = c .before .before .before .loop in (
+      search needs,
+      ⊎-elim
+          (λ w. w .1 ∙ sym (every-next-not (l .i) _ (ne-eqb _ 0 (w .0 .taken))))
+          (λ w. w .1 ∙ l .inv .1 ∙ sym (every-next (l .i) _ (eq-eqb _ 0 (w .0 .left))))
+          (c .if1 .came),
+    )
 
 returns : tie.Need-returns Inv-loop μ-loop
 returns c =

@@ -59,8 +59,8 @@ returns-3 c =
     let a = c .before .before .before .before .before .before .before .args in
     rw (rest (9 * a .count) (a .records .now)) at (c .all-zero .ensures)
     ∙ sym
-      (both-go _ (sym (c .before .before .before .before .before .fit .ensures) ∙ not-false _ (c .before .before .before .before .if1 .left))
-      ∙ both-go _ (sym (c .before .before .before .all-tidy .ensures) ∙ not-false _ (c .before .before .if2 .left)))
+    (both-go _ (sym (c .before .before .before .before .before .fit .ensures) ∙ not-false _ (c .before .before .before .before .if1 .left))
+    ∙ both-go _ (sym (c .before .before .before .all-tidy .ensures) ∙ not-false _ (c .before .before .if2 .left)))
 
 pub bound-well-spec : {M : Type 1} → statement M
 bound-well-spec =

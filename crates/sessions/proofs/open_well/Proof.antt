@@ -52,9 +52,9 @@ returns-4 : tie.Need-returns-4
 returns-4 c =
     rw (rest 50 (c .before .before .before .before .before .before .before .before .before .args .block .now)) at (c .selection-well .ensures)
     ∙ sym
-      (both-go _ (le-leb _ _ (c .before .before .before .before .before .if1 .left))
-      ∙ both-go _ (le-leb _ _ (c .before .before .before .before .if2 .left))
-      ∙ both-go _ (sym (c .before .before .before .bindings-well .ensures) ∙ not-false _ (c .before .before .if3 .left)))
+    (both-go _ (le-leb _ _ (c .before .before .before .before .before .if1 .left))
+    ∙ both-go _ (le-leb _ _ (c .before .before .before .before .if2 .left))
+    ∙ both-go _ (sym (c .before .before .before .bindings-well .ensures) ∙ not-false _ (c .before .before .if3 .left)))
 
 pub open-well-spec : {M : Type 1} → statement M
 open-well-spec =

@@ -56,13 +56,14 @@ loop-less c = search needs
 
 loop-again : tie.Need-loop-again Inv-loop μ-loop
 loop-again c =
-    let l = c .before .before .before .before .loop in
-    (search needs
-    , search needs
-    , ⊎-elim
-      (λ w. w .1 ∙ sym (every-next-not (l .i) _ (le-ltb _ _ (w .0 .taken))))
-      (λ w. w .1 ∙ l .inv .2 ∙ sym (every-next (l .i) _ (lt-ltb _ _ (w .0 .left))))
-      (c .if2 .came))
+    let l = c .before .before .before .before .loop in (
+      search needs,
+      search needs,
+      ⊎-elim
+          (λ w. w .1 ∙ sym (every-next-not (l .i) _ (le-ltb _ _ (w .0 .taken))))
+          (λ w. w .1 ∙ l .inv .2 ∙ sym (every-next (l .i) _ (lt-ltb _ _ (w .0 .left))))
+          (c .if2 .came),
+    )
 
 returns-2 : tie.Need-returns-2 Inv-loop μ-loop
 returns-2 c =

@@ -113,8 +113,8 @@ returns-3 : tie.Need-returns-3
 returns-3 c =
     rw (c .before .before .wide4 .ensures .0) at (c .flagged3 .ensures)
     ∙ sym
-      (both-go _ (sym (rw (c .before .before .before .before .before .before .before .before .before .before .before .before .before .before .wide .ensures .0, c .before .before .before .before .before .before .before .before .before .before .before .before .wide2 .ensures .0) at (c .before .before .before .before .before .before .before .before .before .before .flagged .ensures)) ∙ not-false _ (c .before .before .before .before .before .before .before .before .before .if1 .left))
-      ∙ both-go _ (sym (rw (c .before .before .before .before .before .before .before .wide3 .ensures .0) at (c .before .before .before .before .before .flagged2 .ensures)) ∙ not-false _ (c .before .before .before .before .if2 .left)))
+    (both-go _ (sym (rw (c .before .before .before .before .before .before .before .before .before .before .before .before .before .before .wide .ensures .0, c .before .before .before .before .before .before .before .before .before .before .before .before .wide2 .ensures .0) at (c .before .before .before .before .before .before .before .before .before .before .flagged .ensures)) ∙ not-false _ (c .before .before .before .before .before .before .before .before .before .if1 .left))
+    ∙ both-go _ (sym (rw (c .before .before .before .before .before .before .before .wide3 .ensures .0) at (c .before .before .before .before .before .flagged2 .ensures)) ∙ not-false _ (c .before .before .before .before .if2 .left)))
 
 pub tidy-spec : {M : Type 1} → statement M
 tidy-spec =

@@ -68,10 +68,11 @@ loop-less c = search needs
 loop-again : tie.Need-loop-again Inv-loop μ-loop
 loop-again c =
     let l = c .before .before .before .before .loop in
-    let t = c .before .before .before .before .before .before .before .args .table .now in
-    (search needs
-    , below-more _ _ (l .inv .1)
-      (sym (rw (part-is t (seatSize * l .seat) seatSize) at (c .before .seat-well .ensures)) ∙ not-false _ (c .if2 .left)))
+    let t = c .before .before .before .before .before .before .before .args .table .now in (
+      search needs,
+      below-more _ _ (l .inv .1)
+          (sym (rw (part-is t (seatSize * l .seat) seatSize) at (c .before .seat-well .ensures)) ∙ not-false _ (c .if2 .left)),
+    )
 
 returns-3 : tie.Need-returns-3 Inv-loop μ-loop
 unfolding tableWell
