@@ -3,3 +3,4 @@ pub mod Blocks
 pub mod Shown
 pub mod Seats
 pub mod Tables
+pub mod Bounds

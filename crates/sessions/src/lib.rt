@@ -1,5 +1,6 @@
 // The session table: the judgement of a whole table, and what a call changes in the words of a seat and of a cursor.
 ghost use mathlib.Core.Path.{_≡_};
+ghost use mathlib.Core.Bool.{true};
 ghost use Prim.Native.Nat.{_+_, _*_, _^_, _≤_, _<_};
 ghost use lib.ListN.{length};
 ghost use Rattle.columns.specs.Column.{columnAt, columnsOf};
@@ -228,6 +229,53 @@ pub fn well(table: &[u32]) -> bool
         let at = SEAT_SIZE * seat;
         let end = at + SEAT_SIZE;
         if !seat_well(&table[at..end]) {
+            return false;
+        }
+        seat += 1;
+    }
+    true
+}
+
+// The row numbers of a cursor are below the row count. They rise, so the last one decides.
+fn cursor_below(block: &[u32], rows: u32) -> bool
+    requires { ⌜ (length (now block) ≡ cursorSize) × (cursorWell (now block) ≡ true) ⌝ }
+    ensures { λ r. ⌜ r ≡ cursorBelow rows (cursorOf (now (block .entry))) ⌝ }
+{
+    if block[OPEN] == 0 {
+        return true;
+    }
+    let count = block[COUNT] as usize;
+    if count == 0 {
+        return true;
+    }
+    let last = ROWS + count - 1;
+    block[last] < rows
+}
+
+// The row numbers of both cursors of a seat.
+fn seat_below(block: &[u32], rows: u32) -> bool
+    requires { ⌜ (length (now block) ≡ seatSize) × (seatWell (now block) ≡ true) ⌝ }
+    ensures { λ r. ⌜ r ≡ seatBelow rows (seatOf (now (block .entry))) ⌝ }
+{
+    if block[CONNECTED] == 0 {
+        return true;
+    }
+    if !cursor_below(&block[FIRST..SECOND], rows) {
+        return false;
+    }
+    cursor_below(&block[SECOND..SEAT_SIZE], rows)
+}
+
+// The row numbers of every open cursor: the second half of refusal 3 is given exactly where they are not all below the count.
+pub fn below(table: &[u32], rows: u32) -> bool
+    requires { ⌜ tableWell (now table) ≡ true ⌝ }
+    ensures { λ r. ⌜ r ≡ tableBelow rows (now (table .entry)) ⌝ }
+{
+    let mut seat: usize = 0;
+    while seat < 8 {
+        let at = SEAT_SIZE * seat;
+        let end = at + SEAT_SIZE;
+        if !seat_below(&table[at..end], rows) {
             return false;
         }
         seat += 1;
