@@ -1,29 +1,27 @@
 -- A block that is well is the block of the cursor that it holds, which fits; and the block of a cursor that fits is well and
 -- holds it. Assumes nothing.
-use mathlib.Core.Path.{_≡_, refl, sym, ap, ap₂, subst, _∙_}
-use mathlib.Core.Bool.{Bool, true, false}
-use mathlib.Core.List.{List, [], _∷_, _++_, append-assoc, append-nil}
-use mathlib.Core.Logic.{_⊎_, inl, inr, ⊎-elim}
-use mathlib.Core.Option.{Option, none, some}
+use mathlib.Core.Path.{_≡_, refl, sym, ap, ap₂, _∙_}
+use mathlib.Core.Bool.{true}
+use mathlib.Core.List.{List, [], _∷_, _++_}
+use mathlib.Core.Logic.{_⊎_, inl, inr}
+use mathlib.Core.Option.{some}
 use Prim.Native.Nat.{ℕ, zero, suc, _+_, _-_, _*_, _≤_, _<_}
 use native.Mathlib.Nat.{add-suc}
 use native.Mathlib.Numerals.{add-one}
 use native.Mathlib.Omega.{arith}
-use borrow.Author.Tests.{eq-eqb, ne-eqb, eqb-true, eqb-false, le-leb, leb-true, lt-ltb, ltb-true}
-use lib.Dec.{leb, ltb, eqb}
-use lib.ListN.{length, getD, take, drop, replicate, length-append, length-take, length-drop, length-replicate, getD-replicate, take-append-drop}
-use lib.Seq.{drop-cons, drop-drop, length-take-le, ext-getD, take-at, drop-at, take-append-add, take-take, take-add}
-use Rattle.words.specs.Below.{pick, both, everyBelow}
-use Rattle.words.proofs.Below.{by-test, true≢false, both-left, both-right, both-true, every-at, every-shown}
+use borrow.Author.Tests.{eq-eqb, eqb-true, leb-true, lt-ltb, ltb-true}
+use lib.Dec.{leb, eqb}
+use lib.ListN.{length, getD, take, drop, length-drop, length-replicate, getD-replicate, take-append-drop}
+use lib.Seq.{drop-cons, drop-drop, length-take-le, ext-getD, take-append-add, take-add}
+use Rattle.words.specs.Below.{both}
+use Rattle.words.proofs.Below.{by-test, both-left, both-right, every-at, every-shown}
 use Rattle.columns.specs.Column.{columnAt, columnsFrom, columnsOf, recordOf, recordsOf, noWords, wordsOf}
 use Rattle.columns.specs.Each.{every}
 use Rattle.columns.specs.Fit.{columnsMost, fit}
-use Rattle.columns.specs.declared.Column.{Column}
 use Rattle.columns.proofs.Columns.{from-length}
-use Rattle.columns.proofs.Records.{words-columns}
 use Rattle.sessions.specs.Layout.{cursorSize, openAt, positionAt, countAt, columnsAt, widthAt, recordsAt, recordsSize, rowsAt, rowsSize, part}
-use Rattle.sessions.specs.Seat.{Cursor, zeros, cursorBlock, cursorHeld, cursorOf}
-use Rattle.sessions.specs.Well.{allZero, rising, tidy, boundWell, bindingsWell, selectionWell, openWell, byFlag, cursorWell}
+use Rattle.sessions.specs.Seat.{zeros, cursorBlock, cursorHeld, cursorOf}
+use Rattle.sessions.specs.Well.{allZero, rising, tidy, boundWell, bindingsWell, selectionWell, openWell, cursorWell}
 use Rattle.sessions.specs.Fits.{Rising, CursorFits, CursorOk}
 use Rattle.sessions.proofs.Judging.{fit-count}
 

@@ -1,14 +1,11 @@
 -- Row numbers that rise are all below a bound where the last one is; and what a well block says of its cursor's.
 -- Assumes nothing.
 use mathlib.Core.Path.{_≡_, refl, sym, ap, _∙_}
-use mathlib.Core.Bool.{Bool, true, false}
+use mathlib.Core.Bool.{Bool, true}
 use mathlib.Core.List.{List, [], _∷_}
-use mathlib.Core.Option.{Option, none, some}
 use Prim.Native.Nat.{ℕ, zero, suc, _+_, _-_, _≤_, _<_}
-use native.Mathlib.Nat.{add-suc, add-zero}
-use native.Mathlib.Numerals.{add-one}
 use native.Mathlib.Omega.{arith}
-use borrow.Author.Tests.{eq-eqb, ne-eqb, lt-ltb, ltb-true, ltb-false, leb-true}
+use borrow.Author.Tests.{eq-eqb, ne-eqb, lt-ltb, ltb-true, leb-true}
 use lib.Dec.{leb, ltb, eqb}
 use lib.ListN.{length, getD, take, drop, length-drop}
 use lib.Seq.{getD-take, getD-drop, length-take-le}
@@ -16,18 +13,18 @@ use Rattle.words.specs.Below.{both}
 use Rattle.words.proofs.Below.{by-test, true≢false, both-true, both-left, both-right}
 use Rattle.columns.specs.Each.{every}
 use Rattle.columns.proofs.Each.{every-index}
-use Rattle.sessions.specs.Layout.{seatSize, cursorSize, connectedAt, firstAt, secondAt, openAt, positionAt, countAt, rowsAt, rowsSize, part}
-use Rattle.sessions.specs.Seat.{Cursor, cursorHeld, cursorOf, seatOf}
-use Rattle.sessions.specs.Well.{allZero, byFlag, openWell, cursorWell, seatWell, cursorBelow, seatBelow}
-use Rattle.sessions.specs.Fits.{Rising, CursorFits, CursorOk}
+use Rattle.sessions.specs.Layout.{cursorSize, connectedAt, firstAt, secondAt, openAt, positionAt, countAt, rowsAt, rowsSize, part}
+use Rattle.sessions.specs.Seat.{cursorHeld, cursorOf, seatOf}
+use Rattle.sessions.specs.Well.{openWell, cursorWell, seatWell, cursorBelow, seatBelow}
+use Rattle.sessions.specs.Fits.{Rising, CursorFits}
 use Rattle.sessions.proofs.Blocks.{cursor-back}
 
 -- the last of rising numbers is the greatest
 greatest : (rows : List ℕ) → Rising rows → (left i : ℕ) → i + left + 1 ≡ length rows → getD rows i 0 ≤ getD rows (length rows - 1) 0
 greatest rows r zero i e = rw same (omega arith)
-    where
-      same : length rows - 1 ≡ i
-      same = omega arith
+  where
+    same : length rows - 1 ≡ i
+    same = omega arith
 greatest rows r (suc left) i e = omega (arith, r i (omega arith), greatest rows r left (i + 1) (omega arith))
 
 every-shown : {A : Type 0} (test : A → Bool) (l : List A) (d : A) → ((k : ℕ) → k < length l → test (getD l k d) ≡ true) → every test l ≡ true
@@ -40,13 +37,13 @@ pub last-decides : (bound : ℕ) (rows : List ℕ) → Rising rows → 0 < lengt
 last-decides bound rows r h =
     by-test (ltb (getD rows (length rows - 1) 0) bound)
     (λ q.
-      every-shown (λ row. ltb row bound) rows 0
-      (λ k l. lt-ltb (getD rows k 0) bound (omega (arith, ltb-true (getD rows (length rows - 1) 0) bound q, greatest rows r (length rows - 1 - k) k (omega arith))))
-      ∙ sym q)
+    every-shown (λ row. ltb row bound) rows 0
+    (λ k l. lt-ltb (getD rows k 0) bound (omega (arith, ltb-true (getD rows (length rows - 1) 0) bound q, greatest rows r (length rows - 1 - k) k (omega arith))))
+    ∙ sym q)
     (λ q.
-      by-test (every (λ row. ltb row bound) rows)
-      (λ w. absurd (true≢false (sym (every-index (λ row. ltb row bound) rows 0 w (length rows - 1) (omega arith)) ∙ q)))
-      (λ w. w ∙ sym q))
+    by-test (every (λ row. ltb row bound) rows)
+    (λ w. absurd (true≢false (sym (every-index (λ row. ltb row bound) rows 0 w (length rows - 1) (omega arith)) ∙ q)))
+    (λ w. w ∙ sym q))
 
 -- a cursor that is closed selects nothing; one that is open holds rows that rise
 pub below-closed : (bound : ℕ) (b : List ℕ) → getD b openAt 0 ≡ 0 → cursorBelow bound (cursorOf b) ≡ true
@@ -81,14 +78,16 @@ below-last bound b l w o n =
     ∙ last-decides bound (take count (drop rowsAt b)) (open-fits b l w o .rising) (omega (arith, taken))
     ∙ ap (λ (i : ℕ). ltb (getD (take count (drop rowsAt b)) (i - 1) 0) bound) taken
     ∙ ap (λ (row : ℕ). ltb row bound)
-      (getD-take count (drop rowsAt b) (count - 1) 0 (omega arith) ∙ getD-drop rowsAt b (count - 1) 0 ∙ ap (λ (i : ℕ). getD b i 0) place)
-    where
-      count : ℕ
-      count = getD b countAt 0
-      taken : length (take count (drop rowsAt b)) ≡ count
-      taken = length-take-le count (drop rowsAt b) (omega (arith, count-most b w o, length-drop rowsAt b))
-      place : rowsAt + (count - 1) ≡ rowsAt + count - 1
-      place = omega arith
+    (getD-take count (drop rowsAt b) (count - 1) 0 (omega arith) ∙ getD-drop rowsAt b (count - 1) 0 ∙ ap (λ (i : ℕ). getD b i 0) place)
+  where
+    count : ℕ
+    count = getD b countAt 0
+
+    taken : length (take count (drop rowsAt b)) ≡ count
+    taken = length-take-le count (drop rowsAt b) (omega (arith, count-most b w o, length-drop rowsAt b))
+
+    place : rowsAt + (count - 1) ≡ rowsAt + count - 1
+    place = omega arith
 
 -- the cursors of a connected block that is well
 pub seat-parts : (b : List ℕ) → seatWell b ≡ true → (getD b connectedAt 0 ≡ 0 → ⊥)
@@ -96,7 +95,7 @@ pub seat-parts : (b : List ℕ) → seatWell b ≡ true → (getD b connectedAt 
 unfolding seatWell
 seat-parts b w o =
     let s : both (eqb (getD b connectedAt 0) 1) (both (cursorWell (part b firstAt cursorSize)) (cursorWell (part b secondAt cursorSize))) ≡ true
-        = rw (ne-eqb (getD b connectedAt 0) 0 o) at w in
+    = rw (ne-eqb (getD b connectedAt 0) 0 o) at w in
     let r = both-right (eqb (getD b connectedAt 0) 1) _ s in
     (both-left _ (cursorWell (part b secondAt cursorSize)) r, both-right (cursorWell (part b firstAt cursorSize)) _ r)
 

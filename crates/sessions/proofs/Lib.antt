@@ -4,3 +4,4 @@ pub mod Shown
 pub mod Seats
 pub mod Tables
 pub mod Bounds
+pub mod Writes

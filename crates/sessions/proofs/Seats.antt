@@ -1,9 +1,9 @@
 -- A seat's block that is well is the block of the seat that it holds, which fits, and the other way round. Assumes nothing.
 use mathlib.Core.Path.{_≡_, refl, sym, ap, ap₂, _∙_}
-use mathlib.Core.Bool.{Bool, true, false}
-use mathlib.Core.List.{List, [], _∷_, _++_}
+use mathlib.Core.Bool.{true}
+use mathlib.Core.List.{List, _∷_, _++_}
 use mathlib.Core.Option.{Option, none, some}
-use Prim.Native.Nat.{ℕ, _+_, _-_}
+use Prim.Native.Nat.{ℕ}
 use native.Mathlib.Omega.{arith}
 use borrow.Author.Tests.{eqb-true}
 use lib.Dec.{eqb}
@@ -13,7 +13,7 @@ use Rattle.words.specs.Below.{both}
 use Rattle.words.proofs.Below.{by-test, both-left, both-right, both-true}
 use Rattle.sessions.specs.Layout.{seatSize, cursorSize, connectedAt, versionAt, firstAt, secondAt, part}
 use Rattle.sessions.specs.Seat.{Cursor, Seat, zeros, cursorBlock, cursorOf, seatBlock, seatOf}
-use Rattle.sessions.specs.Well.{allZero, cursorWell, seatWell}
+use Rattle.sessions.specs.Well.{cursorWell, seatWell}
 use Rattle.sessions.specs.Fits.{CursorOk, SeatOk}
 use Rattle.sessions.proofs.Blocks.{zero-is, zeros-are, cursor-back}
 use Rattle.sessions.proofs.Shown.{cursor-held, cursor-shown, block-length}

@@ -1,16 +1,15 @@
 -- The block of a cursor that fits is well, and holds that cursor. Assumes nothing.
-use mathlib.Core.Path.{_≡_, refl, sym, ap, ap₂, subst, _∙_}
-use mathlib.Core.Bool.{Bool, true, false}
+use mathlib.Core.Path.{_≡_, refl, ap, ap₂, _∙_}
+use mathlib.Core.Bool.{true}
 use mathlib.Core.List.{List, [], _∷_, _++_}
-use mathlib.Core.Logic.{_⊎_, inl, inr, ⊎-elim}
-use mathlib.Core.Option.{Option, none, some}
-use Prim.Native.Nat.{ℕ, zero, suc, _+_, _-_, _*_, _≤_, _<_}
+use mathlib.Core.Logic.{⊎-elim}
+use mathlib.Core.Option.{some}
+use Prim.Native.Nat.{ℕ, _+_, _-_, _*_, _≤_}
 use native.Mathlib.Omega.{arith}
-use borrow.Author.Tests.{eq-eqb, ne-eqb, le-leb}
-use lib.Dec.{leb, eqb}
-use lib.ListN.{length, take, drop, replicate, length-append, length-replicate}
+use borrow.Author.Tests.{ne-eqb, le-leb}
+use lib.Dec.{leb}
+use lib.ListN.{length, take, drop, length-append, length-replicate}
 use lib.Seq.{length-take-le, take-at, drop-at, take-append-add}
-use Rattle.words.specs.Below.{pick, both, everyBelow}
 use Rattle.words.proofs.Below.{both-true}
 use Rattle.columns.specs.Column.{columnsOf, recordsOf, noWords, wordsOf}
 use Rattle.columns.specs.Each.{every}
@@ -18,13 +17,13 @@ use Rattle.columns.specs.Fit.{columnsMost, fit}
 use Rattle.columns.specs.declared.Column.{Column}
 use Rattle.columns.proofs.Sound.{fit-sound}
 use Rattle.columns.proofs.Records.{words-columns, records-length}
-use Rattle.sessions.specs.Layout.{cursorSize, columnsAt, widthAt, recordsAt, recordsSize, rowsAt, rowsSize, part}
-use Rattle.sessions.specs.Seat.{Cursor, zeros, cursorBlock, cursorHeld, cursorOf}
-use Rattle.sessions.specs.Well.{allZero, rising, tidy, boundWell, bindingsWell, selectionWell, openWell, byFlag, cursorWell}
-use Rattle.sessions.specs.Fits.{Rising, CursorFits, CursorOk}
+use Rattle.sessions.specs.Layout.{cursorSize, recordsAt, recordsSize, rowsAt, rowsSize, part}
+use Rattle.sessions.specs.Seat.{Cursor, zeros, cursorBlock, cursorOf}
+use Rattle.sessions.specs.Well.{allZero, rising, tidy, bindingsWell, cursorWell}
+use Rattle.sessions.specs.Fits.{CursorFits}
 use Rattle.sessions.proofs.Blocks.{zeros-are, take-zeros, rising-shown}
 
-words-length : (s : List Column) → length (wordsOf s) ≡ recordsSize
+pub words-length : (s : List Column) → length (wordsOf s) ≡ recordsSize
 unfolding wordsOf
 words-length s = length-take-le 45 (recordsOf s ++ noWords) (omega (arith, length-append (recordsOf s) noWords, length-replicate {A = ℕ} 45 0))
 

@@ -1,22 +1,18 @@
 -- Blocks in a table: what is put in a place is read back there, and all else is as it was. Assumes nothing.
-use mathlib.Core.Path.{_≡_, refl, sym, ap, ap₂, _∙_}
-use mathlib.Core.Bool.{Bool, true, false}
-use mathlib.Core.List.{List, [], _∷_, _++_}
+use mathlib.Core.Path.{_≡_, sym, ap, _∙_}
+use mathlib.Core.Bool.{true}
+use mathlib.Core.List.{List, _++_}
 use mathlib.Core.Logic.{_⊎_, inl, inr, ⊎-elim}
-use Prim.Native.Nat.{ℕ, zero, suc, _+_, _-_, _*_, _≤_, _<_}
-use native.Mathlib.Nat.{add-assoc}
+use Prim.Native.Nat.{ℕ, _+_, _-_, _≤_, _<_}
 use native.Mathlib.Omega.{arith}
 use borrow.Author.Tests.{eq-eqb, eqb-true, eqb-false, ltb-true, ltb-false}
 use lib.Dec.{ltb, eqb}
 use lib.ListN.{length, getD, take, drop, length-append, length-drop, List·getD-append}
 use lib.Seq.{length-take-le, take-at, drop-at, ext-getD, getD-take, getD-drop, getD-append-add}
-use Rattle.words.specs.Below.{both, everyBelow}
+use Rattle.words.specs.Below.{everyBelow}
 use Rattle.words.proofs.Below.{by-test, both-left, both-right, both-true, every-at, every-shown}
 use Rattle.sessions.specs.Layout.{seats, seatSize, tableSize, seatAt, part, put, blockOf}
-use Rattle.sessions.specs.Seat.{Seat, seatBlock, seatOf}
 use Rattle.sessions.specs.Well.{seatWell, tableWell}
-use Rattle.sessions.specs.Fits.{SeatOk}
-use Rattle.sessions.proofs.Seats.{seat-back}
 
 lt-or-gt : (a b : ℕ) → (a ≡ b → ⊥) → (a < b) ⊎ (b < a)
 lt-or-gt a b d = by-test (ltb a b) (λ q. inl (ltb-true a b q)) (λ q. inr (omega (arith, ltb-false a b q)))

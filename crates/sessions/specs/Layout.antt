@@ -1,6 +1,6 @@
 -- The places of the session table's words (docs/TABLE.md), each named once.
 use mathlib.Core.List.{List, _++_}
-use Prim.Native.Nat.{ℕ, _+_, _*_}
+use Prim.Native.Nat.{ℕ, _*_}
 use lib.ListN.{take, drop}
 
 -- "8 seats (0 to 7)": a block for each, one after the other

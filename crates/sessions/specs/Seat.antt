@@ -60,3 +60,29 @@ seatOf b =
       first = cursorOf (part b firstAt cursorSize);
       second = cursorOf (part b secondAt cursorSize);
     }))
+
+-- a seat as connecting leaves it, and a cursor as opening leaves it: "with position 0 and no bindings"
+abbrev pub fresh : ℕ → Seat
+fresh version = record { version = version; first = none; second = none }
+
+abbrev pub opened : List ℕ → Cursor
+opened selection = record { position = 0; selection = selection; width = 0; columns = [] }
+
+-- "Accepted bindings replace the old; the position stays"
+abbrev pub rebound : Cursor → ℕ → List Column → Cursor
+rebound c width columns = record { position = c .position; selection = c .selection; width = width; columns = columns }
+
+-- "the position moves"
+abbrev pub moved : Cursor → ℕ → Cursor
+moved c position = record { position = position; selection = c .selection; width = c .width; columns = c .columns }
+
+-- the cursor of a handle: 1 or 2
+abbrev pub cursorIn : Seat → ℕ → Option Cursor
+cursorIn s handle = pick (eqb handle 1) (s .first) (pick (eqb handle 2) (s .second) none)
+
+-- a seat with another cursor under a handle
+abbrev pub withCursor : Seat → ℕ → Option Cursor → Seat
+withCursor s handle c =
+    pick (eqb handle 1)
+    (record { version = s .version; first = c; second = s .second })
+    (record { version = s .version; first = s .first; second = c })

@@ -1,6 +1,6 @@
 -- The judgement of a whole table (01, the paragraph under the refusal table), refusal 2 and the second half of refusal 3.
-use mathlib.Core.Bool.{Bool, true, false}
-use mathlib.Core.List.{List, [], _∷_}
+use mathlib.Core.Bool.{Bool, true}
+use mathlib.Core.List.{List}
 use mathlib.Core.Option.{Option, none, some}
 use Prim.Native.Nat.{ℕ, _+_, _-_, _*_}
 use lib.Dec.{leb, ltb, eqb}
@@ -9,11 +9,9 @@ use Rattle.words.specs.Below.{pick, both, everyBelow}
 use Rattle.columns.specs.Column.{columnsOf}
 use Rattle.columns.specs.Each.{every}
 use Rattle.columns.specs.Fit.{fit}
-use Rattle.columns.specs.declared.Value.{Value}
-use Rattle.columns.specs.declared.Spot.{Spot}
 use Rattle.columns.specs.declared.Column.{Column}
 use Rattle.sessions.specs.Layout.{seats, tableSize, cursorSize, connectedAt, firstAt, secondAt, openAt, positionAt, countAt, columnsAt, widthAt, recordsAt, recordsSize, rowsAt, rowsSize, part, blockOf}
-use Rattle.sessions.specs.Seat.{Cursor, Seat, cursorOf, seatOf}
+use Rattle.sessions.specs.Seat.{Cursor, Seat, seatOf}
 
 -- "a word not in use .. isn't zero"
 abbrev pub allZero : List ℕ → Bool

@@ -1,13 +1,9 @@
 -- `sessions::all_tidy` meets its contract. The loop's invariant says what is left: the columns from the k-th on. Assumes nothing.
 use Rattle.sessions.proofs.all_tidy.Statement.{statement}
 use Rattle.sessions.proofs.all_tidy.Tie as tie
-use Rattle.sessions.proofs.all_tidy.Reads as reads
-use Rattle.sessions.proofs.all_tidy.Lts as lts
-use Rattle.sessions.proofs.tidy.Reads as tidy-reads
 use borrow.Author.Needs.{needs}
 use mathlib.Core.Path.{_≡_, sym, _∙_}
 use Prim.Native.Nat.{_+_}
-use native.Mathlib.Omega.{arith}
 use borrow.Author.Tests.{not-true, not-false}
 use Rattle.columns.specs.Each.{every}
 use Rattle.columns.specs.Column.{columnsFrom, columnsOf}

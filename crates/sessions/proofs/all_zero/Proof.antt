@@ -1,8 +1,6 @@
 -- `sessions::all_zero` meets its contract. The loop's invariant: the flag says that each of the first i words is zero. Assumes nothing.
 use Rattle.sessions.proofs.all_zero.Statement.{statement}
 use Rattle.sessions.proofs.all_zero.Tie as tie
-use Rattle.sessions.proofs.all_zero.Reads as reads
-use Rattle.sessions.proofs.all_zero.Lts as lts
 use borrow.Author.Needs.{needs}
 use mathlib.Core.Path.{_≡_, sym, _∙_, ap}
 use mathlib.Core.Logic.{⊎-elim}
@@ -12,8 +10,6 @@ use lib.ListN.{length, getD}
 use borrow.Author.Tests.{eq-eqb, ne-eqb}
 use Rattle.words.specs.Below.{everyBelow}
 use Rattle.words.proofs.Below.{every-next, every-next-not, every-start}
-use Rattle.sessions.specs.Well.{allZero}
-use native.Mathlib.Omega.{arith}
 
 abbrev Inv-loop : tie.InvT-loop
 Inv-loop words clear₀ i₀ clear i = (i ≤ length words) × (clear ≡ everyBelow i (λ k. eqb (getD words k 0) 0))

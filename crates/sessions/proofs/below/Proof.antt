@@ -1,9 +1,6 @@
 -- `sessions::below` meets its contract. The loop's invariant: the rows of the seats passed are below the bound. Assumes nothing.
 use Rattle.sessions.proofs.below.Statement.{statement}
 use Rattle.sessions.proofs.below.Tie as tie
-use Rattle.sessions.proofs.below.Reads as reads
-use Rattle.sessions.proofs.below.Lts as lts
-use Rattle.sessions.proofs.seat_below.Reads as seat-below-reads
 use borrow.Author.Needs.{needs}
 use mathlib.Core.Path.{_≡_, sym, ap, _∙_}
 use lib.ListN.{length}
@@ -51,9 +48,10 @@ seat-below-requires c κs =
     let a = c .before .before .before .before in
     let t = a .args .table .now in
     let seat = c .before .before .loop .seat in
-    let h : seat < 8 = search needs in
-    (ap length (part-is t (seatSize * seat) seatSize) ∙ block-size t (table-length t (a .pre)) seat h
-    , ap seatWell (part-is t (seatSize * seat) seatSize) ∙ table-seat t (a .pre) seat h)
+    let h : seat < 8 = search needs in (
+      ap length (part-is t (seatSize * seat) seatSize) ∙ block-size t (table-length t (a .pre)) seat h,
+      ap seatWell (part-is t (seatSize * seat) seatSize) ∙ table-seat t (a .pre) seat h,
+    )
 
 returns : tie.Need-returns Inv-loop μ-loop
 unfolding tableBelow
@@ -73,10 +71,11 @@ loop-less c = search needs
 loop-again : tie.Need-loop-again Inv-loop μ-loop
 loop-again c =
     let l = c .before .before .before .before .loop in
-    let t = c .before .before .before .before .before .before .args .table .now in
-    (search needs
-    , below-more _ _ (l .inv .1)
-      (sym (rw (part-is t (seatSize * l .seat) seatSize) at (c .before .seat-below .ensures)) ∙ not-false _ (c .if1 .left)))
+    let t = c .before .before .before .before .before .before .args .table .now in (
+      search needs,
+      below-more _ _ (l .inv .1)
+          (sym (rw (part-is t (seatSize * l .seat) seatSize) at (c .before .seat-below .ensures)) ∙ not-false _ (c .if1 .left)),
+    )
 
 returns-2 : tie.Need-returns-2 Inv-loop μ-loop
 unfolding tableBelow

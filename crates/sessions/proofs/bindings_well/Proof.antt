@@ -2,10 +2,6 @@
 use borrow.Author.Needs.{needs}
 use Rattle.sessions.proofs.bindings_well.Statement.{statement}
 use Rattle.sessions.proofs.bindings_well.Tie as tie
-use Rattle.sessions.proofs.bindings_well.Reads as reads
-use Rattle.sessions.proofs.bindings_well.Lts as lts
-use Rattle.sessions.proofs.all_zero.Reads as all-zero-reads
-use Rattle.sessions.proofs.bound_well.Reads as bound-well-reads
 use borrow.Author.Tests.{eq-eqb, ne-eqb}
 
 shared-slice-read-count : tie.Need-shared-slice-read-count

@@ -2,12 +2,7 @@
 use borrow.Author.Needs.{needs}
 use Rattle.sessions.proofs.bound_well.Statement.{statement}
 use Rattle.sessions.proofs.bound_well.Tie as tie
-use Rattle.sessions.proofs.bound_well.Reads as reads
-use Rattle.sessions.proofs.bound_well.Lts as lts
-use Rattle.columns.proofs.fit.Reads as fit-reads
-use Rattle.sessions.proofs.all_tidy.Reads as all-tidy-reads
-use Rattle.sessions.proofs.all_zero.Reads as all-zero-reads
-use mathlib.Core.Path.{_≡_, sym, _∙_}
+use mathlib.Core.Path.{sym, _∙_}
 use native.Mathlib.Omega.{arith}
 use borrow.Author.Tests.{not-true, not-false}
 use Rattle.words.proofs.Below.{both-stop, both-go}

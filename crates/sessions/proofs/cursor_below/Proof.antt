@@ -2,9 +2,7 @@
 use borrow.Author.Needs.{needs}
 use Rattle.sessions.proofs.cursor_below.Statement.{statement}
 use Rattle.sessions.proofs.cursor_below.Tie as tie
-use Rattle.sessions.proofs.cursor_below.Reads as reads
-use Rattle.sessions.proofs.cursor_below.Lts as lts
-use mathlib.Core.Path.{sym, _∙_}
+use mathlib.Core.Path.{sym}
 use native.Mathlib.Omega.{arith}
 use Rattle.sessions.proofs.Bounds.{below-closed, below-none, below-last, count-most}
 

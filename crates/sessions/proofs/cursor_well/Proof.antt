@@ -2,10 +2,6 @@
 use borrow.Author.Needs.{needs}
 use Rattle.sessions.proofs.cursor_well.Statement.{statement}
 use Rattle.sessions.proofs.cursor_well.Tie as tie
-use Rattle.sessions.proofs.cursor_well.Reads as reads
-use Rattle.sessions.proofs.cursor_well.Lts as lts
-use Rattle.sessions.proofs.all_zero.Reads as all-zero-reads
-use Rattle.sessions.proofs.open_well.Reads as open-well-reads
 use mathlib.Core.Path.{sym, _∙_}
 use Rattle.sessions.specs.Well.{cursorWell}
 use Rattle.sessions.proofs.Judging.{flag-unset, flag-set, flag-bad}

@@ -1,9 +1,6 @@
 -- `sessions::flagged` meets its contract: the test of the flag picks the case. Assumes nothing.
 use Rattle.sessions.proofs.flagged.Statement.{statement}
 use Rattle.sessions.proofs.flagged.Tie as tie
-use Rattle.sessions.proofs.flagged.Reads as reads
-use Rattle.sessions.proofs.flagged.Lts as lts
-use borrow.Author.Needs.{needs}
 use borrow.Author.Tests.{eq-eqb, ne-eqb}
 
 returns : tie.Need-returns

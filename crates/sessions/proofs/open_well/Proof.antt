@@ -2,10 +2,6 @@
 use borrow.Author.Needs.{needs}
 use Rattle.sessions.proofs.open_well.Statement.{statement}
 use Rattle.sessions.proofs.open_well.Tie as tie
-use Rattle.sessions.proofs.open_well.Reads as reads
-use Rattle.sessions.proofs.open_well.Lts as lts
-use Rattle.sessions.proofs.bindings_well.Reads as bindings-well-reads
-use Rattle.sessions.proofs.selection_well.Reads as selection-well-reads
 use mathlib.Core.Path.{sym, _∙_}
 use borrow.Author.Tests.{lt-leb, le-leb, not-true, not-false}
 use Rattle.words.proofs.Below.{both-stop, both-go}

@@ -1,8 +1,6 @@
 -- `sessions::rising` meets its contract. The loop's invariant: the flag says that each of the first i numbers is below the next. Assumes nothing.
 use Rattle.sessions.proofs.rising.Statement.{statement}
 use Rattle.sessions.proofs.rising.Tie as tie
-use Rattle.sessions.proofs.rising.Reads as reads
-use Rattle.sessions.proofs.rising.Lts as lts
 use borrow.Author.Needs.{needs}
 use mathlib.Core.Path.{_≡_, sym, ap, _∙_}
 use mathlib.Core.Logic.{⊎-elim}
@@ -13,7 +11,6 @@ use lib.ListN.{length, getD}
 use borrow.Author.Tests.{lt-ltb, le-ltb}
 use Rattle.words.specs.Below.{everyBelow}
 use Rattle.words.proofs.Below.{every-next, every-next-not, every-start}
-use Rattle.sessions.specs.Well.{rising}
 
 abbrev Inv-loop : tie.InvT-loop
 Inv-loop rows last rises₀ i₀ rises i = (i ≤ last) × (last + 1 ≡ length rows) × (rises ≡ everyBelow i (λ k. ltb (getD rows k 0) (getD rows (k + 1) 0)))

@@ -2,9 +2,6 @@
 use borrow.Author.Needs.{needs}
 use Rattle.sessions.proofs.seat_below.Statement.{statement}
 use Rattle.sessions.proofs.seat_below.Tie as tie
-use Rattle.sessions.proofs.seat_below.Reads as reads
-use Rattle.sessions.proofs.seat_below.Lts as lts
-use Rattle.sessions.proofs.cursor_below.Reads as cursor-below-reads
 use mathlib.Core.Path.{sym, _∙_}
 use borrow.Author.Tests.{not-true, not-false}
 use Rattle.words.proofs.Below.{both-stop, both-go}
@@ -57,8 +54,8 @@ returns-3 c =
     let a = c .before .before .before .before .before .before .before .before .args in
     c .cursor-below2 .ensures
     ∙ sym
-      (below-seated (a .rows) (a .block .now) (c .before .before .before .before .before .if1 .left)
-      ∙ both-go _ (sym (c .before .before .before .cursor-below .ensures) ∙ not-false _ (c .before .before .if2 .left)))
+    (below-seated (a .rows) (a .block .now) (c .before .before .before .before .before .if1 .left)
+    ∙ both-go _ (sym (c .before .before .before .cursor-below .ensures) ∙ not-false _ (c .before .before .if2 .left)))
 
 pub seat-below-spec : {M : Type 1} → statement M
 seat-below-spec =

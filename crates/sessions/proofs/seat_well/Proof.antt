@@ -2,10 +2,6 @@
 use borrow.Author.Needs.{needs}
 use Rattle.sessions.proofs.seat_well.Statement.{statement}
 use Rattle.sessions.proofs.seat_well.Tie as tie
-use Rattle.sessions.proofs.seat_well.Reads as reads
-use Rattle.sessions.proofs.seat_well.Lts as lts
-use Rattle.sessions.proofs.all_zero.Reads as all-zero-reads
-use Rattle.sessions.proofs.cursor_well.Reads as cursor-well-reads
 use mathlib.Core.Path.{sym, _∙_}
 use borrow.Author.Tests.{not-true, not-false}
 use Rattle.words.proofs.Below.{both-stop, both-go}

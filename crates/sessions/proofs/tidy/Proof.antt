@@ -2,10 +2,6 @@
 use borrow.Author.Needs.{needs}
 use Rattle.sessions.proofs.tidy.Statement.{statement}
 use Rattle.sessions.proofs.tidy.Tie as tie
-use Rattle.sessions.proofs.tidy.Reads as reads
-use Rattle.sessions.proofs.tidy.Lts as lts
-use Rattle.sessions.proofs.flagged.Reads as flagged-reads
-use Rattle.sessions.proofs.wide.Reads as wide-reads
 use mathlib.Core.Path.{sym, _∙_}
 use borrow.Author.Tests.{not-true, not-false}
 use Rattle.words.proofs.Below.{both-stop, both-go}

@@ -1,9 +1,6 @@
 -- `sessions::well` meets its contract. The loop's invariant: the seats passed are well. Assumes nothing.
 use Rattle.sessions.proofs.well.Statement.{statement}
 use Rattle.sessions.proofs.well.Tie as tie
-use Rattle.sessions.proofs.well.Reads as reads
-use Rattle.sessions.proofs.well.Lts as lts
-use Rattle.sessions.proofs.seat_well.Reads as seat-well-reads
 use borrow.Author.Needs.{needs}
 use mathlib.Core.Path.{_≡_, sym, _∙_}
 use mathlib.Core.Bool.{true}
