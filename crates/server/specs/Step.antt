@@ -1,0 +1,71 @@
+-- What a call does: a step from the sources and the table to an outcome.
+use mathlib.Core.Path.{_≡_}
+use mathlib.Core.Bool.{Bool, true, false, not}
+use mathlib.Core.List.{List, [], _∷_, _++_}
+use mathlib.Core.Option.{Option, none, some}
+use Prim.Native.Nat.{ℕ}
+use lib.Dec.{ltb, eqb}
+use lib.ListN.{length, drop}
+use Rattle.words.specs.Below.{pick}
+use Rattle.catalogue.specs.Plain.{Row, catalogue}
+use Rattle.sessions.specs.Layout.{seatSize, seatAt, put, blockOf}
+use Rattle.sessions.specs.Seat.{Seat, seatBlock, seatOf, fresh}
+use Rattle.sessions.specs.Well.{tableWell, tableBelow}
+use Rattle.server.specs.Refusal.{firstCause}
+
+-- what a call reads beside the table: the rows of the catalogue, none where it is malformed
+pub record Sources : Type 0 where
+  pub rows : Option (List Row)
+
+abbrev pub sourcesOf : List ℕ → Sources
+sourcesOf bytes = record { rows = catalogue bytes }
+
+-- "Every call returns the refusal number, else 0; opening also the handle (0 if refused), a message also its count of reply
+-- bytes": the bytes written, and the table's words afterwards
+pub record Outcome : Type 0 where
+  pub refusal : ℕ
+  pub handle : ℕ
+  pub reply : List ℕ
+  pub words : List ℕ
+
+-- an outcome as a function's answer and as what it leaves: a message's buffer is unchanged past the bytes written
+pub record Keeps (o : Outcome) (refusal handle count : ℕ) (words entry exit : List ℕ) : Type 0 where
+  pub refused : refusal ≡ o .refusal
+  pub given : handle ≡ o .handle
+  pub counted : count ≡ length (o .reply)
+  pub kept : words ≡ o .words
+  pub written : exit ≡ o .reply ++ drop (length (o .reply)) entry
+
+-- nothing is written
+abbrev pub quiet : ℕ → List ℕ → Outcome
+quiet refusal words = record { refusal = refusal; handle = 0; reply = []; words = words }
+
+-- refusal 3: "catalogue malformed, or an open cursor's row number not below its row count"
+abbrev pub rowsHold : Option (List Row) → List ℕ → Bool
+rowsHold none t = false
+rowsHold (some rows) t = tableBelow (length rows) t
+
+-- what every call judges: 1 "seat above 7", 2 "session table malformed", 3
+abbrev pub judging : Sources → List ℕ → ℕ → List (ℕ × Bool)
+judging src t seat = (1, ltb 7 seat) ∷ (2, not (tableWell t)) ∷ (3, not (rowsHold (src .rows) t)) ∷ []
+
+abbrev pub seatHeld : List ℕ → ℕ → Option Seat
+seatHeld t seat = seatOf (blockOf t seat)
+
+abbrev pub isConnected : Option Seat → Bool
+isConnected none = false
+isConnected (some s) = true
+
+-- the table with another seat in a seat's place; "No refusal changes the table"
+abbrev pub seated : List ℕ → ℕ → Option Seat → List ℕ
+seated t seat s = put t (seatAt seat) seatSize (seatBlock s)
+
+-- connecting: 7 is "connecting a connected seat"
+abbrev pub connectCauses : Sources → List ℕ → ℕ → List (ℕ × Bool)
+connectCauses src t seat = judging src t seat ++ ((7, isConnected (seatHeld t seat)) ∷ [])
+
+unfoldable pub connectStep : Sources → List ℕ → ℕ → ℕ → Outcome
+connectStep src t seat version =
+    pick (eqb (firstCause (connectCauses src t seat)) 0)
+    (quiet 0 (seated t seat (some (fresh version))))
+    (quiet (firstCause (connectCauses src t seat)) t)

@@ -1,0 +1,62 @@
+// The server: connecting, opening a query, and messages, over a lent table of sessions and a lent catalogue.
+ghost use mathlib.Core.Path.{_≡_};
+ghost use mathlib.Core.List.{[]};
+ghost use Prim.Native.Nat.{_+_, _≤_, _<_};
+ghost use Rattle.server.specs.Refusal.{firstCause};
+ghost use Rattle.server.specs.Step.{sourcesOf, judging, connectStep, Keeps};
+ghost use Rattle.server.specs.Judgement.{Judgement};
+
+// A seat, a cursor's handle and a row's number: three types, so that none can stand for another.
+pub struct Seat(pub u32);
+pub struct Handle(pub u32);
+pub struct Row(pub u32);
+
+const SEAT_SIZE: usize = 2150;
+
+// What is judged of every call: the refusal, and the catalogue's row count where there is none.
+struct Judged {
+    refusal: u32,
+    rows: u32,
+}
+
+// Refusals 1 to 3. The place of each row is noted.
+fn judge(table: &[u32], bytes: &[u8], seat: u32, places: &mut [u32; 1024]) -> Judged
+    ensures { λ r. ⌜ Judgement (now (table .entry)) (now (bytes .entry)) seat r (now (places .entry)) (now (places .exit)) ⌝ }
+{
+    if 7 < seat {
+        return Judged { refusal: 1, rows: 0 };
+    }
+    if !sessions::well(table) {
+        return Judged { refusal: 2, rows: 0 };
+    }
+    let checked = catalogue::check(bytes, places);
+    let refusal = checked.refusal;
+    let rows = checked.rows;
+    if refusal != 0 {
+        return Judged { refusal: 3, rows: 0 };
+    }
+    if !sessions::below(table, rows) {
+        return Judged { refusal: 3, rows: 0 };
+    }
+    Judged { refusal: 0, rows }
+}
+
+// Connects a seat.
+pub fn connect(table: &mut [u32], catalogue: &[u8], seat: Seat, version: u32) -> u32
+    ensures { λ r. ⌜ Keeps (connectStep (sourcesOf (now (catalogue .entry))) (now (table .entry)) (seat .0) version) r 0 0 (now (table .exit)) [] [] ⌝ }
+{
+    let k = seat.0;
+    let mut places = [0u32; 1024];
+    let judged = judge(table, catalogue, k, &mut places);
+    let refusal = judged.refusal;
+    if refusal != 0 {
+        return refusal;
+    }
+    let at = SEAT_SIZE * (k as usize);
+    let end = at + SEAT_SIZE;
+    if table[at] != 0 {
+        return 7;
+    }
+    sessions::connect(&mut table[at..end], version);
+    0
+}
