@@ -1,11 +1,12 @@
 -- The ways that judging a column can go. Assumes nothing.
-use mathlib.Core.Path.{_≡_, refl, sym, ap, _∙_}
-use mathlib.Core.Bool.{Bool, true, false}
-use Prim.Native.Nat.{ℕ, _<_}
+use mathlib.Core.Path.{_≡_}
+use mathlib.Core.Bool.{true, false}
+use Prim.Native.Nat.{ℕ}
 use native.Mathlib.Omega.{arith}
 use borrow.Author.Tests.{eq-eqb, ne-eqb, lt-ltb}
-use lib.Dec.{ltb, eqb}
-use Rattle.columns.specs.Fit.{known, cellSize, isUsed, columnFits}
+use lib.Dec.{eqb}
+use Rattle.columns.specs.Property.{known, cellSize}
+use Rattle.columns.specs.Fit.{columnFits}
 use Rattle.columns.specs.declared.Column.{Column}
 
 module _ (c : Column) (size : ℕ) (e : size ≡ cellSize (c .property) (c .vtype)) (k : known (c .property) ≡ true) where

@@ -2,18 +2,19 @@
 use mathlib.Core.Path.{_≡_, refl, sym, ap, _∙_}
 use mathlib.Core.Bool.{Bool, true, false}
 use mathlib.Core.List.{List, [], _∷_, _++_, append-nil, append-assoc}
-use Prim.Native.Nat.{ℕ, zero, suc, _+_, _*_, _-_, _≤_, _<_}
+use Prim.Native.Nat.{ℕ, _+_, _*_, _-_, _≤_, _<_}
 use native.Mathlib.Nat.{add-zero}
 use native.Mathlib.Numerals.{add-one, add-two, add-three, add-four, add-five, add-six, add-seven, add-eight}
 use native.Mathlib.Omega.{arith}
 use borrow.Author.Tests.{lt-ltb, le-ltb, ltb-true, ltb-false, leb-true, leb-false, lt-leb}
 use lib.Dec.{ltb, leb}
-use lib.ListN.{length, getD, take, drop, set, replicate, length-append, length-replicate, replicate-append-replicate}
-use lib.Seq.{sets-eq, take-at, drop-at, take-append-seam, take-append-add, drop-append-add, getD-append-add}
+use lib.ListN.{length, getD, take, drop, set, length-append, length-replicate, replicate-append-replicate}
+use lib.Seq.{sets-eq, take-at, drop-at, take-append-add, drop-append-add, getD-append-add}
 use Rattle.words.specs.Below.{both}
 use Rattle.words.proofs.Below.{by-test}
-use Rattle.columns.specs.Column.{columnAt, columnsFrom, columnsOf, recordOf, recordsOf, zeros, noWords, wordsOf, kept, keptAll}
-use Rattle.columns.specs.Fit.{fit, columnsMost, rowMost, within, columnsFit}
+use Rattle.columns.specs.Column.{columnAt, columnsFrom, columnsOf, recordOf, recordsOf, zeros, noWords, wordsOf, kept, keptAll, columnsMost}
+use Rattle.columns.specs.Property.{within}
+use Rattle.columns.specs.Fit.{fit, rowMost, columnsFit}
 use Rattle.columns.specs.declared.Column.{Column}
 use Rattle.columns.proofs.Columns.{from-length}
 

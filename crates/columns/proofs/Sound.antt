@@ -1,38 +1,38 @@
 -- Bindings that pass are sound. Assumes nothing.
-use mathlib.Core.Path.{_≡_, refl, sym, ap, _∙_}
-use mathlib.Core.Bool.{Bool, true, false, not}
-use mathlib.Core.List.{List, [], _∷_}
-use mathlib.Core.Logic.{⊎-elim}
-use Prim.Native.Nat.{ℕ, _+_, _≤_, _<_}
+use mathlib.Core.Path.{_≡_}
+use mathlib.Core.Bool.{true}
+use mathlib.Core.List.{List}
+use mathlib.Core.Logic.{_⊎_, inl, inr, ⊎-elim}
+use Prim.Native.Nat.{ℕ, _+_, _*_, _≤_, _<_}
 use native.Mathlib.Omega.{arith}
-use borrow.Author.Tests.{leb-true, ltb-true, eqb-true, eqb-false, eq-eqb, not-true}
-use lib.Dec.{leb, ltb, eqb}
-use lib.ListN.{length, getD}
-use Rattle.words.specs.Below.{both, either}
-use Rattle.words.proofs.Below.{by-test, both-left, both-right, true≢false}
+use borrow.Author.Tests.{leb-true, ltb-true, ltb-false, eqb-true, eqb-false, eq-eqb, not-true}
+use lib.Dec.{leb, ltb}
+use lib.ListN.{length}
+use Rattle.words.specs.Below.{both}
+use Rattle.words.proofs.Below.{by-test, both-left, both-right}
 use Rattle.columns.specs.Each.{every, pairwise}
-use Rattle.columns.specs.Fit.{within, known, cellSize, sized, typed, columnFits, differ, spansOf, inside, apart, columnsMost, rowMost, columnsFit, fit}
+use Rattle.columns.specs.Column.{columnsMost}
+use Rattle.columns.specs.Property.{within, known, cellSize}
+use Rattle.columns.specs.Fit.{sized, typed, columnFits, differ, spansOf, inside, apart, rowMost, columnsFit, fit}
+use Rattle.columns.specs.Spans.{spanOf}
 use Rattle.columns.specs.Sound.{column, span, Holds, Sound}
 use Rattle.columns.specs.declared.Value.{Value}
 use Rattle.columns.specs.declared.Column.{Column}
 use Rattle.columns.specs.declared.Span.{Span}
-use Rattle.columns.proofs.Each.{every-index, pair-index}
+use Rattle.columns.proofs.Spans.{inside-none}
+use Rattle.columns.proofs.Parts.{every-part, pair-parts}
+use Rattle.columns.proofs.Each.{all-three, every-index, pair-index}
 
 range : (low high n : ℕ) → within low high n ≡ true → (low ≤ n) × (n ≤ high)
 range low high n e =
     (leb-true low n (both-left (leb low n) (leb n high) e), leb-true n high (both-right (leb low n) (leb n high) e))
 
 -- a column that fits: its property, its type, its size
-all-three : (a b c : Bool) → both a (both b c) ≡ true → (a ≡ true) × (b ≡ true) × (c ≡ true)
-all-three true true c e = (refl, refl, e)
-all-three true false c e = absurd (true≢false (sym e))
-all-three false b c e = absurd (true≢false (sym e))
-
-parts : (c : Column) → columnFits c ≡ true
+pub parts : (c : Column) → columnFits c ≡ true
     → (known (c .property) ≡ true) × (ltb 0 (cellSize (c .property) (c .vtype)) ≡ true) × (sized (cellSize (c .property) (c .vtype)) (c .value) ≡ true)
 parts c e = all-three (known (c .property)) (ltb 0 (cellSize (c .property) (c .vtype))) (sized (cellSize (c .property) (c .vtype)) (c .value)) e
 
-sized-used : (size : ℕ) (v : Value) → sized size v ≡ true → v .used ≡ 1 → v .size ≡ size
+pub sized-used : (size : ℕ) (v : Value) → sized size v ≡ true → v .used ≡ 1 → v .size ≡ size
 sized-used size v e u = eqb-true (v .size) size (rw (eq-eqb (v .used) 1 u) at e)
 
 -- two spans of which one ends before the other begins have no byte in common
@@ -41,6 +41,9 @@ shares a b e byte h k =
     by-test (leb (a .place + a .size) (b .place))
     (λ q. omega (arith, leb-true (a .place + a .size) (b .place) q))
     (λ q. omega (arith, leb-true (b .place + b .size) (a .place) (rw q at e)))
+
+either-way : (a b : ℕ) → (a ≡ b → ⊥) → (a < b) ⊎ (b < a)
+either-way a b d = by-test (ltb a b) (λ q. inl (ltb-true a b q)) (λ q. inr (omega (arith, ltb-false a b q)))
 
 -- the parts of the definition
 fit-parts : (width : ℕ) (columns : List Column) → fit width columns ≡ true
@@ -71,4 +74,12 @@ fit-sound width columns e =
       sized = λ k h. sized-used (size k) (column columns k .value) (parts (column columns k) (each k h) .2);
       inside = λ i h. leb-true (span columns i .place + span columns i .size) width (every-index (inside width) (spansOf columns) _ lie i h);
       apart = λ i j h b. shares (span columns i) (span columns j) (pair-index apart (spansOf columns) _ clear i j h b);
+      part-inside = λ k q h b.
+          leb-true (spanOf (column columns k) q .place + spanOf (column columns k) q .size) width
+          (every-part (inside width) (inside-none width) columns lie k q h b);
+      parts-apart = λ j p k q h b m n d byte x y.
+          ⊎-elim
+          (λ l. shares (spanOf (column columns j) p) (spanOf (column columns k) q) (pair-parts columns clear j p k q l m b n) byte x y)
+          (λ l. shares (spanOf (column columns k) q) (spanOf (column columns j) p) (pair-parts columns clear k q j p l h n b) byte y x)
+          (either-way (3 * j + p) (3 * k + q) d);
     }

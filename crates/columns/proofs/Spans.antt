@@ -1,5 +1,5 @@
 -- The used spans of a row, one at a time: an unused one counts as an empty one. Assumes nothing.
-use mathlib.Core.Path.{_≡_, refl, sym, ap, _∙_}
+use mathlib.Core.Path.{_≡_, refl, _∙_}
 use mathlib.Core.Bool.{Bool, true, false}
 use mathlib.Core.List.{List, [], _∷_}
 use Prim.Native.Nat.{ℕ, zero, suc, _+_, _*_, _-_, _/_, _%_, _<_}
@@ -8,16 +8,15 @@ use native.Mathlib.Numerals.{sub-one}
 use native.Mathlib.Omega.{arith}
 use borrow.Author.Tests.{le-leb}
 use lib.Dec.{leb}
-use lib.ListN.{length}
 use Rattle.words.specs.Below.{both, either}
-use Rattle.words.proofs.Below.{by-test, both-true}
+use Rattle.words.proofs.Below.{by-test}
 use Rattle.columns.specs.Each.{every, pairwise}
 use Rattle.columns.specs.Column.{columnAt, columnsFrom}
 use Rattle.columns.specs.Fit.{isUsed, spanIf, spansOf, inside, apart}
-use Rattle.columns.specs.Spans.{flagAt, placeAt, sizeAt, spanOr, spanAt, spansFrom}
+use Rattle.columns.specs.Spans.{flagOf, placeOf, sizeOf, spanOr, spanAt, spansFrom}
 use Rattle.columns.specs.declared.Span.{Span}
 
-abbrev none : Span
+abbrev pub none : Span
 none = record { place = 0; size = 0 }
 
 -- an empty span lies in every row and meets none
@@ -37,12 +36,12 @@ none-apart [] = refl
 none-apart (b ∷ s) = rw (le-leb 0 (b .place) (omega arith)) (none-apart s)
 
 -- a span in front of others: used or not, it is judged as what stands for it
-every-if : (test : Span → Bool) (flag place size : ℕ) (s : List Span) → test none ≡ true
+pub every-if : (test : Span → Bool) (flag place size : ℕ) (s : List Span) → test none ≡ true
     → every test (spanIf flag place size s) ≡ both (test (spanOr flag place size)) (every test s)
 unfolding every
 every-if test flag place size s e = by-test (isUsed flag) (λ q. rw q) (λ q. rw (q, e))
 
-pair-if : (flag place size : ℕ) (s : List Span)
+pub pair-if : (flag place size : ℕ) (s : List Span)
     → pairwise apart (spanIf flag place size s) ≡ both (every (apart (spanOr flag place size)) s) (pairwise apart s)
 unfolding pairwise
 pair-if flag place size s = by-test (isUsed flag) (λ q. rw q) (λ q. rw (q, none-apart s))
@@ -53,7 +52,7 @@ unfolding spansFrom
 spans-none left i words e = rw e
 
 spans-more : (left i : ℕ) (words : List ℕ) → 0 < left
-    → spansFrom left i words ≡ spanIf (flagAt words i) (placeAt words i) (sizeAt words i) (spansFrom (left - 1) (i + 1) words)
+    → spansFrom left i words ≡ spanIf (flagOf (columnAt words (i / 3)) (i % 3)) (placeOf (columnAt words (i / 3)) (i % 3)) (sizeOf (columnAt words (i / 3)) (i % 3)) (spansFrom (left - 1) (i + 1) words)
 unfolding spansFrom
 spans-more zero i words h = absurd (not-suc-le-zero h)
 spans-more (suc n) i words h = rw (sub-one (suc n))
@@ -63,7 +62,7 @@ module _ (left i : ℕ) (words : List ℕ) (h : 0 < left) where
       → every test (spansFrom left i words) ≡ both (test (spanAt words i)) (every test (spansFrom (left - 1) (i + 1) words))
   each test e =
       rw (spans-more left i words h)
-      (every-if test (flagAt words i) (placeAt words i) (sizeAt words i) (spansFrom (left - 1) (i + 1) words) e)
+      (every-if test (flagOf (columnAt words (i / 3)) (i % 3)) (placeOf (columnAt words (i / 3)) (i % 3)) (sizeOf (columnAt words (i / 3)) (i % 3)) (spansFrom (left - 1) (i + 1) words) e)
 
   pub each-more : (test : Span → Bool) → test none ≡ true → test (spanAt words i) ≡ true
       → every test (spansFrom left i words) ≡ every test (spansFrom (left - 1) (i + 1) words)
@@ -77,7 +76,7 @@ module _ (left i : ℕ) (words : List ℕ) (h : 0 < left) where
       ≡ both (every (apart (spanAt words i)) (spansFrom (left - 1) (i + 1) words)) (pairwise apart (spansFrom (left - 1) (i + 1) words))
   two =
       rw (spans-more left i words h)
-      (pair-if (flagAt words i) (placeAt words i) (sizeAt words i) (spansFrom (left - 1) (i + 1) words))
+      (pair-if (flagOf (columnAt words (i / 3)) (i % 3)) (placeOf (columnAt words (i / 3)) (i % 3)) (sizeOf (columnAt words (i / 3)) (i % 3)) (spansFrom (left - 1) (i + 1) words))
 
   pub two-more : every (apart (spanAt words i)) (spansFrom (left - 1) (i + 1) words) ≡ true
       → pairwise apart (spansFrom left i words) ≡ pairwise apart (spansFrom (left - 1) (i + 1) words)

@@ -1,5 +1,5 @@
 -- "Each of a list is such that" and "any two of a list are such that".
-use mathlib.Core.Bool.{Bool, true, false}
+use mathlib.Core.Bool.{Bool, true}
 use mathlib.Core.List.{List, [], _∷_}
 use Rattle.words.specs.Below.{both}
 

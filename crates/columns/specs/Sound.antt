@@ -1,9 +1,12 @@
 -- What fit bindings come to, in plain terms.
 use mathlib.Core.Path.{_≡_}
 use mathlib.Core.List.{List}
-use Prim.Native.Nat.{ℕ, _+_, _≤_, _<_}
+use Prim.Native.Nat.{ℕ, _+_, _*_, _≤_, _<_}
 use lib.ListN.{length, getD}
-use Rattle.columns.specs.Fit.{keyProperty, noteProperty, cellSize, spansOf, columnsMost, rowMost}
+use Rattle.columns.specs.Column.{columnsMost}
+use Rattle.columns.specs.Property.{keyProperty, noteProperty, cellSize}
+use Rattle.columns.specs.Fit.{spansOf, rowMost}
+use Rattle.columns.specs.Spans.{spanOf}
 use Rattle.columns.specs.declared.Column.{Column}
 use Rattle.columns.specs.declared.Span.{Span}
 
@@ -36,3 +39,7 @@ pub record Sound (width : ℕ) (columns : List Column) : Type 0 where
       → column columns k .value .size ≡ cellSize (column columns k .property) (column columns k .vtype)
   pub inside : (i : ℕ) → i < length (spansOf columns) → span columns i .place + span columns i .size ≤ width
   pub apart : (i j : ℕ) → i < j → j < length (spansOf columns) → (byte : ℕ) → Holds (span columns i) byte → Holds (span columns j) byte → ⊥
+  -- the same by column and part (0 value, 1 status, 2 length), where a part that is not used is an empty span
+  pub part-inside : (k p : ℕ) → k < length columns → p < 3 → spanOf (column columns k) p .place + spanOf (column columns k) p .size ≤ width
+  pub parts-apart : (j p k q : ℕ) → j < length columns → p < 3 → k < length columns → q < 3 → (3 * j + p ≡ 3 * k + q → ⊥)
+      → (byte : ℕ) → Holds (spanOf (column columns j) p) byte → Holds (spanOf (column columns k) q) byte → ⊥

@@ -1,34 +1,45 @@
--- The used spans of a row by index, as the code goes through them: three to a column, value, status, length.
-use mathlib.Core.List.{List, [], _∷_}
+-- The spans of a row by index, three to a column: 0 its value, 1 its status, 2 its length.
+use mathlib.Core.List.{List, []}
 use Prim.Native.Nat.{ℕ, zero, suc, _+_, _*_, _/_, _%_}
 use lib.Dec.{eqb}
-use lib.ListN.{getD}
 use Rattle.words.specs.Below.{pick}
-use Rattle.columns.specs.Fit.{isUsed, spanIf, statusSize, lengthSize}
+use Rattle.columns.specs.Column.{columnsMost, columnAt}
+use Rattle.columns.specs.Property.{statusSize, lengthSize}
+use Rattle.columns.specs.Fit.{isUsed, spanIf}
+use Rattle.columns.specs.declared.Column.{Column}
 use Rattle.columns.specs.declared.Span.{Span}
 
 -- one of three things, by a number
 abbrev pub third {ℓ} : {A : Type ℓ} → ℕ → A → A → A → A
 third part a b c = pick (eqb part 0) a (pick (eqb part 1) b c)
 
--- flag, place and size of the i-th span of the records in a list of words
-abbrev pub flagAt : List ℕ → ℕ → ℕ
-flagAt words i = getD words (9 * (i / 3) + third (i % 3) 2 5 7) 0
+-- flag, place and size of a part of a column
+abbrev pub flagOf : Column → ℕ → ℕ
+flagOf c part = third part (c .value .used) (c .status .used) (c .length .used)
 
-abbrev pub placeAt : List ℕ → ℕ → ℕ
-placeAt words i = getD words (9 * (i / 3) + third (i % 3) 3 6 8) 0
+abbrev pub placeOf : Column → ℕ → ℕ
+placeOf c part = third part (c .value .offset) (c .status .offset) (c .length .offset)
 
-abbrev pub sizeAt : List ℕ → ℕ → ℕ
-sizeAt words i = third (i % 3) (getD words (9 * (i / 3) + 4) 0) statusSize lengthSize
+abbrev pub sizeOf : Column → ℕ → ℕ
+sizeOf c part = third part (c .value .size) statusSize lengthSize
 
--- a span, or an empty one where it is not used: that lies in every row and meets none
+-- a span; where it is not used an empty one, which lies in every row and meets none
 abbrev pub spanOr : ℕ → ℕ → ℕ → Span
 spanOr flag place size = pick (isUsed flag) (record { place = place; size = size }) (record { place = 0; size = 0 })
 
-abbrev pub spanAt : List ℕ → ℕ → Span
-spanAt words i = spanOr (flagAt words i) (placeAt words i) (sizeAt words i)
+abbrev pub spanOf : Column → ℕ → Span
+spanOf c part = spanOr (flagOf c part) (placeOf c part) (sizeOf c part)
 
--- the used ones of n spans from the i-th on
+-- the i-th span of the columns in a list of words
+abbrev pub spanAt : List ℕ → ℕ → Span
+spanAt words i = spanOf (columnAt words (i / 3)) (i % 3)
+
+-- of n spans from the i-th on, those that are used
 unfoldable pub spansFrom : ℕ → ℕ → List ℕ → List Span
 spansFrom zero i words = []
-spansFrom (suc n) i words = spanIf (flagAt words i) (placeAt words i) (sizeAt words i) (spansFrom n (i + 1) words)
+spansFrom (suc n) i words =
+    let c = columnAt words (i / 3) in
+    spanIf (flagOf c (i % 3)) (placeOf c (i % 3)) (sizeOf c (i % 3)) (spansFrom n (i + 1) words)
+
+abbrev pub spansMost : ℕ
+spansMost = 3 * columnsMost

@@ -1,11 +1,13 @@
 // The bindings of a cursor: which columns a row has, and where in the row each stands.
+mod layout;
+
 ghost use mathlib.Core.Path.{_≡_};
-ghost use Prim.Native.Nat.{_+_, _*_, _≤_, _<_};
+ghost use Prim.Native.Nat.{_+_, _≤_, _<_};
 ghost use lib.ListN.{length};
 ghost use Rattle.columns.specs.Each.{every, pairwise};
-ghost use Rattle.columns.specs.Column.{columnAt, columnsFrom, columnsOf, noWords, kept};
-ghost use Rattle.columns.specs.Fit.{within, numberType, numberSize, cellSize, columnFits, unlike, differ, columnsFit, apart, inside, fit};
-ghost use Rattle.columns.specs.Spans.{spanOr, spanAt, spansFrom};
+ghost use Rattle.columns.specs.Column.{columnsMost, roomWords, columnAt, columnsFrom, columnsOf, noWords, kept};
+ghost use Rattle.columns.specs.Property.{within, numberType, numberSize, cellSize};
+ghost use Rattle.columns.specs.Fit.{columnFits, unlike, differ, columnsFit, fit};
 
 // Where a column's value stands in a row: whether it is used, its place and its size.
 pub struct Value {
@@ -41,19 +43,25 @@ pub const COLUMNS_MOST: u32 = 5;
 
 pub const ROW_MOST: u32 = 4096;
 
-const KEY: u32 = 2;
+// The properties: key, language, default, label, note. The first three are numbers.
+pub const KEY: u32 = 2;
 
-const DEFAULT: u32 = 4;
+pub const LANGUAGE: u32 = 3;
 
-const NOTE: u32 = 6;
+pub const DEFAULT: u32 = 4;
 
-const VARIANT_TYPE: u32 = 0x000C;
+pub const LABEL: u32 = 5;
 
-const VARIANT_SIZE: u32 = 16;
+pub const NOTE: u32 = 6;
 
-const STATUS_SIZE: u32 = 1;
+// A cell that says its own type, and its size.
+pub const VARIANT_TYPE: u32 = 0x000C;
 
-const LENGTH_SIZE: u32 = 4;
+pub const VARIANT_SIZE: u32 = 16;
+
+pub const STATUS_SIZE: u32 = 1;
+
+pub const LENGTH_SIZE: u32 = 4;
 
 // Whether a number is one of those from low to high.
 fn within(low: u32, high: u32, n: u32) -> bool
@@ -95,7 +103,7 @@ pub fn cell_size(property: u32, vtype: u32) -> u32
 
 // The type and size of the k-th column, against its property.
 fn column_fits(words: &[u32], k: usize) -> bool
-    requires { ⌜ (length (now words) ≡ 45) × (k < 5) ⌝ }
+    requires { ⌜ (length (now words) ≡ roomWords) × (k < columnsMost) ⌝ }
     ensures { λ r. ⌜ r ≡ columnFits (columnAt (now (words .entry)) k) ⌝ }
 {
     let at = COLUMN_WORDS * k;
@@ -118,7 +126,7 @@ fn column_fits(words: &[u32], k: usize) -> bool
 
 // The type and size of each column.
 fn columns_fit(words: &[u32], count: usize) -> bool
-    requires { ⌜ (length (now words) ≡ 45) × (count ≤ 5) ⌝ }
+    requires { ⌜ (length (now words) ≡ roomWords) × (count ≤ columnsMost) ⌝ }
     ensures { λ r. ⌜ r ≡ every columnFits (columnsOf count (now (words .entry))) ⌝ }
 {
     let mut k = 0;
@@ -133,9 +141,9 @@ fn columns_fit(words: &[u32], count: usize) -> bool
     true
 }
 
-// Whether none of the columns from the k-th on has a property.
+// Whether none of so many columns from one on has a property.
 fn unbound(words: &[u32], from: usize, count: usize, property: u32) -> bool
-    requires { ⌜ (length (now words) ≡ 45) × (from + count ≤ 5) ⌝ }
+    requires { ⌜ (length (now words) ≡ roomWords) × (from + count ≤ columnsMost) ⌝ }
     ensures { λ r. ⌜ r ≡ every (unlike property) (columnsFrom count from (now (words .entry))) ⌝ }
 {
     let mut k = from;
@@ -152,7 +160,7 @@ fn unbound(words: &[u32], from: usize, count: usize, property: u32) -> bool
 
 // Whether no property is bound twice.
 fn bound_once(words: &[u32], count: usize) -> bool
-    requires { ⌜ (length (now words) ≡ 45) × (count ≤ 5) ⌝ }
+    requires { ⌜ (length (now words) ≡ roomWords) × (count ≤ columnsMost) ⌝ }
     ensures { λ r. ⌜ r ≡ pairwise differ (columnsOf count (now (words .entry))) ⌝ }
 {
     let mut k = 0;
@@ -168,104 +176,9 @@ fn bound_once(words: &[u32], count: usize) -> bool
     true
 }
 
-fn span_or(used: u32, place: u32, size: u32) -> Span
-    ensures { λ r. ⌜ r ≡ spanOr used place size ⌝ }
-{
-    if used == 1 {
-        return Span { place, size };
-    }
-    Span { place: 0, size: 0 }
-}
-
-// The i-th span of the columns, three to a column; an empty one where it is not used.
-fn span_at(words: &[u32], i: usize) -> Span
-    requires { ⌜ (length (now words) ≡ 45) × (i < 15) ⌝ }
-    ensures { λ r. ⌜ r ≡ spanAt (now (words .entry)) i ⌝ }
-{
-    let at = COLUMN_WORDS * (i / 3);
-    let part = i % 3;
-    if part == 0 {
-        return span_or(words[at + 2], words[at + 3], words[at + 4]);
-    }
-    if part == 1 {
-        return span_or(words[at + 5], words[at + 6], STATUS_SIZE);
-    }
-    span_or(words[at + 7], words[at + 8], LENGTH_SIZE)
-}
-
-// The place after a span, which need not fit 32 bits.
-fn end(a: Span) -> u64
-    ensures { λ r. ⌜ r ≡ a .place + a .size ⌝ }
-{
-    (a.place as u64) + (a.size as u64)
-}
-
-// Whether two spans share no byte.
-fn apart(a: Span, b: Span) -> bool
-    ensures { λ r. ⌜ r ≡ apart a b ⌝ }
-{
-    if end(a) <= (b.place as u64) {
-        return true;
-    }
-    end(b) <= (a.place as u64)
-}
-
-// Whether each span lies in the row.
-fn all_inside(words: &[u32], total: usize, width: u32) -> bool
-    requires { ⌜ (length (now words) ≡ 45) × (total ≤ 15) ⌝ }
-    ensures { λ r. ⌜ r ≡ every (inside width) (spansFrom total 0 (now (words .entry))) ⌝ }
-{
-    let mut i = 0;
-    let mut left = total;
-    while 0 < left {
-        let a = span_at(words, i);
-        if (width as u64) < end(a) {
-            return false;
-        }
-        i += 1;
-        left -= 1;
-    }
-    true
-}
-
-// Whether a span meets none of those from an index on.
-fn clear_of(words: &[u32], from: usize, total: usize, a: Span) -> bool
-    requires { ⌜ (length (now words) ≡ 45) × (from + total ≤ 15) ⌝ }
-    ensures { λ r. ⌜ r ≡ every (apart a) (spansFrom total from (now (words .entry))) ⌝ }
-{
-    let mut i = from;
-    let mut left = total;
-    while 0 < left {
-        if !apart(a, span_at(words, i)) {
-            return false;
-        }
-        i += 1;
-        left -= 1;
-    }
-    true
-}
-
-// Whether no two spans meet.
-fn none_meet(words: &[u32], total: usize) -> bool
-    requires { ⌜ (length (now words) ≡ 45) × (total ≤ 15) ⌝ }
-    ensures { λ r. ⌜ r ≡ pairwise apart (spansFrom total 0 (now (words .entry))) ⌝ }
-{
-    let mut i = 0;
-    let mut left = total;
-    while 0 < left {
-        let a = span_at(words, i);
-        i += 1;
-        left -= 1;
-        if !clear_of(words, i, left, a) {
-            return false;
-        }
-    }
-    true
-}
-
 // The columns for rows of a width, once their count is in range.
 fn columns_for(words: &[u32], count: usize, width: u32) -> bool
-    requires { ⌜ (length (now words) ≡ 45) × (count ≤ 5) ⌝ }
+    requires { ⌜ (length (now words) ≡ roomWords) × (count ≤ columnsMost) ⌝ }
     ensures { λ r. ⌜ r ≡ columnsFit width (columnsOf count (now (words .entry))) ⌝ }
 {
     if !columns_fit(words, count) {
@@ -275,15 +188,15 @@ fn columns_for(words: &[u32], count: usize, width: u32) -> bool
         return false;
     }
     let total = 3 * count;
-    if !all_inside(words, total, width) {
+    if !layout::all_inside(words, total, width) {
         return false;
     }
-    none_meet(words, total)
+    layout::none_meet(words, total)
 }
 
 // Whether bindings are fit: `count` columns, in the nine words of each, for rows of `width` bytes.
 pub fn fit(words: &[u32], count: u32, width: u32) -> bool
-    requires { ⌜ length (now words) ≡ 45 ⌝ }
+    requires { ⌜ length (now words) ≡ roomWords ⌝ }
     ensures { λ r. ⌜ r ≡ fit width (columnsOf count (now (words .entry))) ⌝ }
 {
     if !within(1, COLUMNS_MOST, count) {
@@ -297,7 +210,7 @@ pub fn fit(words: &[u32], count: u32, width: u32) -> bool
 
 // Clears the room for five columns.
 pub fn clear(words: &mut [u32])
-    requires { ⌜ length (now words) ≡ 45 ⌝ }
+    requires { ⌜ length (now words) ≡ roomWords ⌝ }
     ensures { λ _. ⌜ now (words .exit) ≡ noWords ⌝ }
 {
     let mut i = 0;
@@ -309,10 +222,10 @@ pub fn clear(words: &mut [u32])
 
 // Keeps a column as the k-th record, where there is room for it.
 pub fn keep(words: &mut [u32], k: usize, c: Column)
-    requires { ⌜ length (now words) ≡ 45 ⌝ }
+    requires { ⌜ length (now words) ≡ roomWords ⌝ }
     ensures { λ _. ⌜ now (words .exit) ≡ kept (now (words .entry)) k c ⌝ }
 {
-    if 5 <= k {
+    if (COLUMNS_MOST as usize) <= k {
         return;
     }
     let at = COLUMN_WORDS * k;

@@ -8,7 +8,7 @@ use native.Mathlib.Omega.{arith}
 use borrow.Author.Tests.{eq-eqb, ne-eqb}
 use lib.Dec.{eqb}
 use Rattle.sessions.specs.Seat.{fresh}
-use Rattle.server.specs.Refusal.{firstCause}
+use Rattle.messages.specs.Refusal.{firstCause}
 use Rattle.server.specs.Step.{Sources, Outcome, Keeps, quiet, judging, seatHeld, isConnected, seated, connectCauses, connectStep}
 use Rattle.server.proofs.Causes.{first-stop, first-go, judging-numbered}
 

@@ -7,11 +7,13 @@ use Prim.Native.Nat.{ℕ}
 use lib.Dec.{ltb, eqb}
 use lib.ListN.{length, drop}
 use Rattle.words.specs.Below.{pick}
+use Rattle.words.specs.Checksum.{messageSized}
 use Rattle.catalogue.specs.Plain.{Row, catalogue}
 use Rattle.sessions.specs.Layout.{seatSize, seatAt, put, blockOf}
 use Rattle.sessions.specs.Seat.{Seat, seatBlock, seatOf, fresh}
 use Rattle.sessions.specs.Well.{tableWell, tableBelow}
-use Rattle.server.specs.Refusal.{firstCause}
+use Rattle.messages.specs.Refusal.{firstCause}
+use Rattle.messages.specs.Message.{SeatOutcome, seatMessage}
 
 -- what a call reads beside the table: the rows of the catalogue, none where it is malformed
 pub record Sources : Type 0 where
@@ -69,3 +71,16 @@ connectStep src t seat version =
     pick (eqb (firstCause (connectCauses src t seat)) 0)
     (quiet 0 (seated t seat (some (fresh version))))
     (quiet (firstCause (connectCauses src t seat)) t)
+
+-- a message: 4 "reply buffer under 16,384 bytes", 5 "message under 16 or over 16,384 bytes", and then what its seat says
+abbrev pub sizing : List ℕ → ℕ → List (ℕ × Bool)
+sizing m room = (4, ltb room 16384) ∷ (5, not (messageSized m)) ∷ []
+
+abbrev pub onSeat : List ℕ → ℕ → SeatOutcome → Outcome
+onSeat t seat o = record { refusal = o .refusal; handle = 0; reply = o .reply; words = seated t seat (o .after) }
+
+unfoldable pub messageStep : Sources → List ℕ → ℕ → List ℕ → ℕ → Outcome
+messageStep src t seat m room =
+    pick (eqb (firstCause (judging src t seat ++ sizing m room)) 0)
+    (onSeat t seat (seatMessage (seatHeld t seat) m))
+    (quiet (firstCause (judging src t seat ++ sizing m room)) t)

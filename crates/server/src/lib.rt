@@ -2,7 +2,7 @@
 ghost use mathlib.Core.Path.{_≡_};
 ghost use mathlib.Core.List.{[]};
 ghost use Prim.Native.Nat.{_+_, _≤_, _<_};
-ghost use Rattle.server.specs.Refusal.{firstCause};
+ghost use Rattle.messages.specs.Refusal.{firstCause};
 ghost use Rattle.server.specs.Step.{sourcesOf, judging, connectStep, Keeps};
 ghost use Rattle.server.specs.Judgement.{Judgement};
 

@@ -17,7 +17,8 @@ use Rattle.words.specs.Below.{both}
 use Rattle.words.proofs.Below.{by-test, both-left, both-right, every-at, every-shown}
 use Rattle.columns.specs.Column.{columnAt, columnsFrom, columnsOf, recordOf, recordsOf, noWords, wordsOf}
 use Rattle.columns.specs.Each.{every}
-use Rattle.columns.specs.Fit.{columnsMost, fit}
+use Rattle.columns.specs.Column.{columnsMost}
+use Rattle.columns.specs.Fit.{fit}
 use Rattle.columns.proofs.Columns.{from-length}
 use Rattle.sessions.specs.Layout.{cursorSize, openAt, positionAt, countAt, columnsAt, widthAt, recordsAt, recordsSize, rowsAt, rowsSize, part}
 use Rattle.sessions.specs.Seat.{zeros, cursorBlock, cursorHeld, cursorOf}

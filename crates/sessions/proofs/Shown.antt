@@ -13,7 +13,8 @@ use lib.Seq.{length-take-le, take-at, drop-at, take-append-add}
 use Rattle.words.proofs.Below.{both-true}
 use Rattle.columns.specs.Column.{columnsOf, recordsOf, noWords, wordsOf}
 use Rattle.columns.specs.Each.{every}
-use Rattle.columns.specs.Fit.{columnsMost, fit}
+use Rattle.columns.specs.Column.{columnsMost}
+use Rattle.columns.specs.Fit.{fit}
 use Rattle.columns.specs.declared.Column.{Column}
 use Rattle.columns.proofs.Sound.{fit-sound}
 use Rattle.columns.proofs.Records.{words-columns, records-length}

@@ -1,7 +1,9 @@
 -- The places of the session table's words (docs/TABLE.md), each named once.
 use mathlib.Core.List.{List, _++_}
 use Prim.Native.Nat.{ℕ, _*_}
+use lib.Dec.{eqb}
 use lib.ListN.{take, drop}
+use Rattle.words.specs.Below.{pick}
 
 -- "8 seats (0 to 7)": a block for each, one after the other
 abbrev pub seats : ℕ
@@ -31,6 +33,10 @@ firstAt = 2
 
 abbrev pub secondAt : ℕ
 secondAt = 1076
+
+-- a handle's cursor
+abbrev pub cursorPlace : ℕ → ℕ
+cursorPlace handle = pick (eqb handle 1) firstAt secondAt
 
 -- in a cursor's block: open, position, count of selected rows, count of bound columns, row width, the records of the columns,
 -- the row numbers

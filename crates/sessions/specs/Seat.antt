@@ -51,15 +51,16 @@ cursorHeld b =
 abbrev pub cursorOf : List ℕ → Option Cursor
 cursorOf b = pick (eqb (getD b openAt 0) 0) none (some (cursorHeld b))
 
+abbrev pub seatIn : List ℕ → Seat
+seatIn b =
+    record
+    { version = getD b versionAt 0
+    ; first = cursorOf (part b firstAt cursorSize)
+    ; second = cursorOf (part b secondAt cursorSize)
+    }
+
 abbrev pub seatOf : List ℕ → Option Seat
-seatOf b =
-    pick (eqb (getD b connectedAt 0) 0) none
-    (some
-    (record {
-      version = getD b versionAt 0;
-      first = cursorOf (part b firstAt cursorSize);
-      second = cursorOf (part b secondAt cursorSize);
-    }))
+seatOf b = pick (eqb (getD b connectedAt 0) 0) none (some (seatIn b))
 
 -- a seat as connecting leaves it, and a cursor as opening leaves it: "with position 0 and no bindings"
 abbrev pub fresh : ℕ → Seat

@@ -5,7 +5,7 @@ ghost use Prim.Native.Nat.{_+_, _*_, _^_, _≤_, _<_};
 ghost use mathlib.Core.Option.{none, some};
 ghost use lib.ListN.{length, set};
 ghost use Rattle.columns.specs.Column.{columnAt, columnsOf};
-ghost use Rattle.columns.specs.Fit.{columnsMost};
+ghost use Rattle.columns.specs.Column.{columnsMost};
 ghost use Rattle.columns.specs.Each.{every};
 ghost use Rattle.sessions.specs.Layout.{seatSize, cursorSize, openAt, positionAt, countAt, columnsAt, widthAt, recordsAt, recordsSize, put};
 ghost use Rattle.sessions.specs.Seat.{zeros, seatBlock, cursorOf, seatOf, fresh};

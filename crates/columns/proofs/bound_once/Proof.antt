@@ -1,9 +1,6 @@
 -- The columns that are left decide as all of them do: each is held against those after it. Assumes nothing.
 use Rattle.columns.proofs.bound_once.Statement.{statement}
 use Rattle.columns.proofs.bound_once.Tie as tie
-use Rattle.columns.proofs.bound_once.Reads as reads
-use Rattle.columns.proofs.bound_once.Lts as lts
-use Rattle.columns.proofs.unbound.Reads as unbound-reads
 use borrow.Author.Needs.{needs}
 use Prim.Native.Nat.{_+_}
 use mathlib.Core.Path.{_≡_, sym, _∙_}

@@ -2,14 +2,8 @@
 use borrow.Author.Needs.{needs}
 use Rattle.columns.proofs.cell_size.Statement.{statement}
 use Rattle.columns.proofs.cell_size.Tie as tie
-use Rattle.columns.proofs.cell_size.Reads as reads
-use Rattle.columns.proofs.cell_size.Lts as lts
-use Rattle.columns.proofs.number_size.Reads as number-size-reads
-use Rattle.columns.proofs.number_type.Reads as number-type-reads
-use Rattle.columns.proofs.within.Reads as within-reads
 use borrow.Author.Tests.{eq-eqb, ne-eqb}
 use mathlib.Core.Path.{sym, _∙_}
-use Rattle.columns.specs.Fit.{within}
 
 returns : tie.Need-returns
 returns c = simp (eq-eqb _ _ (c .if1 .taken))

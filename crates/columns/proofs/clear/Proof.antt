@@ -1,11 +1,9 @@
 -- The words passed are zero and the others as they were; in the end all are passed. Assumes nothing.
 use Rattle.columns.proofs.clear.Statement.{statement}
 use Rattle.columns.proofs.clear.Tie as tie
-use Rattle.columns.proofs.clear.Reads as reads
-use Rattle.columns.proofs.clear.Lts as lts
 use borrow.Author.Needs.{needs}
 use Prim.Native.Nat.{_≤_, _-_}
-use mathlib.Core.Path.{_≡_, refl, ap, _∙_}
+use mathlib.Core.Path.{_≡_, refl, _∙_}
 use mathlib.Core.List.{_++_, append-nil}
 use lib.ListN.{length, drop, replicate, length-set, drop-of-length-le}
 use borrow.Author.Fill.{fill-more}

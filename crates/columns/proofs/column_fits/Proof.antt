@@ -2,10 +2,6 @@
 use borrow.Author.Needs.{needs}
 use Rattle.columns.proofs.column_fits.Statement.{statement}
 use Rattle.columns.proofs.column_fits.Tie as tie
-use Rattle.columns.proofs.column_fits.Reads as reads
-use Rattle.columns.proofs.column_fits.Lts as lts
-use Rattle.columns.proofs.cell_size.Reads as cell-size-reads
-use Rattle.columns.proofs.within.Reads as within-reads
 use mathlib.Core.Path.{sym, _∙_}
 use borrow.Author.Tests.{not-true, not-false}
 use Rattle.columns.specs.Column.{columnAt}

@@ -1,9 +1,6 @@
 -- The columns that are left decide as all of them do. Assumes nothing.
 use Rattle.columns.proofs.columns_fit.Statement.{statement}
 use Rattle.columns.proofs.columns_fit.Tie as tie
-use Rattle.columns.proofs.columns_fit.Reads as reads
-use Rattle.columns.proofs.columns_fit.Lts as lts
-use Rattle.columns.proofs.column_fits.Reads as column-fits-reads
 use borrow.Author.Needs.{needs}
 use Prim.Native.Nat.{_+_}
 use mathlib.Core.Path.{_≡_, sym, _∙_}

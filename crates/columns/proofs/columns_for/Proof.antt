@@ -2,18 +2,9 @@
 use borrow.Author.Needs.{needs}
 use Rattle.columns.proofs.columns_for.Statement.{statement}
 use Rattle.columns.proofs.columns_for.Tie as tie
-use Rattle.columns.proofs.columns_for.Reads as reads
-use Rattle.columns.proofs.columns_for.Lts as lts
-use Rattle.columns.proofs.all_inside.Reads as all-inside-reads
-use Rattle.columns.proofs.bound_once.Reads as bound-once-reads
-use Rattle.columns.proofs.columns_fit.Reads as columns-fit-reads
-use Rattle.columns.proofs.none_meet.Reads as none-meet-reads
-use mathlib.Core.Path.{_≡_, sym, ap, _∙_}
-use mathlib.Core.Bool.{true, false}
+use mathlib.Core.Path.{sym, _∙_}
 use borrow.Author.Tests.{not-true, not-false}
-use Rattle.columns.specs.Each.{every, pairwise}
-use Rattle.columns.specs.Column.{columnsOf}
-use Rattle.columns.specs.Fit.{columnFits, differ, spansOf, inside, apart, columnsFit}
+use Rattle.columns.specs.Fit.{columnsFit}
 use Rattle.columns.proofs.Spans.{spans-by-index}
 
 columns-fit-requires : tie.Need-columns-fit-requires

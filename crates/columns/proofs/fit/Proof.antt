@@ -2,12 +2,7 @@
 use borrow.Author.Needs.{needs}
 use Rattle.columns.proofs.fit.Statement.{statement}
 use Rattle.columns.proofs.fit.Tie as tie
-use Rattle.columns.proofs.fit.Reads as reads
-use Rattle.columns.proofs.fit.Lts as lts
-use Rattle.columns.proofs.columns_for.Reads as columns-for-reads
-use Rattle.columns.proofs.within.Reads as within-reads
-use mathlib.Core.Path.{_≡_, sym, ap, _∙_}
-use native.Mathlib.Omega.{arith}
+use mathlib.Core.Path.{sym, _∙_}
 use borrow.Author.Tests.{not-true, not-false, leb-true}
 use lib.Dec.{leb}
 use Rattle.words.proofs.Below.{both-right}

@@ -2,14 +2,14 @@
 use borrow.Author.Needs.{needs}
 use Rattle.columns.proofs.keep.Statement.{statement}
 use Rattle.columns.proofs.keep.Tie as tie
-use Rattle.columns.proofs.keep.Reads as reads
-use Rattle.columns.proofs.keep.Lts as lts
 use Prim.Native.Nat.{_*_}
-use mathlib.Core.Path.{_≡_, refl, ap, _∙_}
-use lib.ListN.{length, length-set}
+use lib.ListN.{length-set}
 use borrow.Author.Tests.{lt-ltb, le-ltb}
 use Rattle.columns.proofs.Records.{nine-stores}
 use native.Mathlib.Omega.{arith}
+
+cast-if1 : tie.Need-cast-if1
+cast-if1 c = search needs
 
 returns : tie.Need-returns
 returns c = simp (le-ltb _ _ (c .if1 .taken))
@@ -106,6 +106,7 @@ pub keep-spec : {M : Type 1} → statement M
 keep-spec =
     tie.close
     (tie.spec
+    cast-if1
     returns
     mul-at
     mul-words

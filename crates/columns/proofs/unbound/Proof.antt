@@ -1,8 +1,6 @@
 -- The columns that are left decide as all of them do. Assumes nothing.
 use Rattle.columns.proofs.unbound.Statement.{statement}
 use Rattle.columns.proofs.unbound.Tie as tie
-use Rattle.columns.proofs.unbound.Reads as reads
-use Rattle.columns.proofs.unbound.Lts as lts
 use borrow.Author.Needs.{needs}
 use Prim.Native.Nat.{_+_, _*_}
 use mathlib.Core.Path.{_≡_, sym, _∙_}

@@ -1,9 +1,6 @@
 -- Below the low number the first test fails; from it on, the second test is the answer. Assumes nothing.
 use Rattle.columns.proofs.within.Statement.{statement}
 use Rattle.columns.proofs.within.Tie as tie
-use Rattle.columns.proofs.within.Reads as reads
-use Rattle.columns.proofs.within.Lts as lts
-use borrow.Author.Needs.{needs}
 use borrow.Author.Tests.{lt-leb, le-leb}
 
 returns : tie.Need-returns

@@ -1,0 +1,6 @@
+pub mod Wire
+pub mod Bindings
+pub mod Told
+pub mod Agree
+pub mod Judged
+pub mod Vectors

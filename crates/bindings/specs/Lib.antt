@@ -1,0 +1,4 @@
+pub mod Wire
+pub mod Bindings
+pub mod Plain
+pub mod Told

@@ -1,0 +1,133 @@
+-- What a message does to its seat (01, "Header and checksum", the refusal table, "Bindings" and the paragraph on disconnect
+-- and free cursor).
+use mathlib.Core.Bool.{Bool, true, false, not}
+use mathlib.Core.List.{List, [], _∷_, _++_}
+use mathlib.Core.Option.{Option, none, some}
+use Prim.Native.Nat.{ℕ, zero, suc, _+_, _*_}
+use lib.Dec.{leb, ltb, eqb}
+use lib.ListN.{length, getD}
+use Rattle.words.specs.Below.{pick, both}
+use Rattle.words.specs.Word.{numberAt, le}
+use Rattle.words.specs.Checksum.{checksum}
+use Rattle.columns.specs.Fit.{fit}
+use Rattle.bindings.specs.Bindings.{Bindings, bindingsOn}
+use Rattle.spans.specs.Laid.{fourWords}
+use Rattle.sessions.specs.Seat.{Cursor, Seat, cursorIn, withCursor, rebound}
+use Rattle.messages.specs.Refusal.{firstCause, statusOf}
+
+-- the messages served, each its number and whether its checksum is tested: "disconnect 0xC9, free cursor 0xCB, .. set bindings
+-- 0xD0", "the checksum of .. set bindings is tested (..); other messages are not"
+abbrev pub messageTable : List ℕ
+messageTable = 0xC9 ∷ 0 ∷ 0xCB ∷ 0 ∷ 0xD0 ∷ 1 ∷ []
+
+abbrev pub kinds : ℕ
+kinds = 3
+
+-- the kind of a message is its place among those; one that is not served has the count of kinds
+unfoldable pub kindFrom : ℕ → ℕ → ℕ → ℕ
+kindFrom zero k msg = k
+kindFrom (suc left) k msg = pick (eqb (getD messageTable (2 * k) 0) msg) k (kindFrom left (k + 1) msg)
+
+abbrev pub kindOf : ℕ → ℕ
+kindOf msg = kindFrom kinds 0 msg
+
+abbrev pub served : ℕ → Bool
+served msg = ltb (kindOf msg) kinds
+
+abbrev pub tested : ℕ → Bool
+tested kind = eqb (getD messageTable (2 * kind + 1) 0) 1
+
+-- the words of a request that are judged
+abbrev pub msgOf : List ℕ → ℕ
+msgOf m = numberAt 4 m 0
+
+abbrev pub handleOf : List ℕ → ℕ
+handleOf m = numberAt 4 m 16
+
+-- "For a client version of 8 or above the checksum .. is tested"
+abbrev pub checksumWrong : ℕ → ℕ → List ℕ → Bool
+checksumWrong version kind m = both (both (leb 8 version) (tested kind)) (not (eqb (numberAt 4 m 8) (checksum m)))
+
+abbrev pub isOpen : Option Cursor → Bool
+isOpen none = false
+isOpen (some c) = true
+
+-- "handle not open on this seat"
+abbrev pub notOpen : Seat → List ℕ → ℕ × Bool
+notOpen s m = (10, not (isOpen (cursorIn s (handleOf m))))
+
+-- "bindings unfit", of a body that reads
+abbrev pub unread : Option Bindings → Bool
+unread none = true
+unread (some b) = false
+
+abbrev pub unfit : Option Bindings → Bool
+unfit none = false
+unfit (some b) = not (fit (b .width) (b .columns))
+
+-- 9 and after it, by kind: "Disconnect (empty body)", "Free cursor has a body of exactly 4 bytes", set bindings
+abbrev pub bodyCauses : ℕ → Seat → List ℕ → List (ℕ × Bool)
+bodyCauses kind s m =
+    pick (eqb kind 0) ((9, not (eqb (length m) 16)) ∷ [])
+    (pick (eqb kind 1) ((9, not (eqb (length m) 20)) ∷ notOpen s m ∷ [])
+    ((9, unread (bindingsOn m)) ∷ notOpen s m ∷ (12, unfit (bindingsOn m)) ∷ []))
+
+-- 6 "message number not served", 7 "anything else on an unconnected one", 8 "checksum tested and wrong"
+abbrev pub gateCauses : Option Seat → List ℕ → List (ℕ × Bool)
+gateCauses none m = (6, not (served (msgOf m))) ∷ (7, true) ∷ []
+gateCauses (some s) m = (6, not (served (msgOf m))) ∷ (7, false) ∷ (8, checksumWrong (s .version) (kindOf (msgOf m)) m) ∷ []
+
+abbrev pub bodyOf : Option Seat → List ℕ → List (ℕ × Bool)
+bodyOf none m = []
+bodyOf (some s) m = bodyCauses (kindOf (msgOf m)) s m
+
+abbrev pub seatCauses : Option Seat → List ℕ → List (ℕ × Bool)
+seatCauses held m = gateCauses held m ++ bodyOf held m
+
+-- what a message leaves of its seat: its answer, its reply, and the seat
+pub record SeatOutcome : Type 0 where
+  pub refusal : ℕ
+  pub reply : List ℕ
+  pub after : Option Seat
+
+-- "From 6 on .. the reply is 16 bytes: _msg, the status, zero, zero. No refusal changes the table."
+abbrev pub refusedOn : ℕ → Option Seat → List ℕ → SeatOutcome
+refusedOn n held m = record { refusal = n; reply = fourWords (msgOf m) (statusOf n) 0 0; after = held }
+
+abbrev pub openCount : Option Cursor → ℕ
+openCount none = 0
+openCount (some c) = 1
+
+-- "the seat's count of cursors still open"
+abbrev pub stillOpen : Seat → ℕ
+stillOpen s = openCount (s .first) + openCount (s .second)
+
+abbrev pub freed : Seat → List ℕ → Seat
+freed s m = withCursor s (handleOf m) none
+
+abbrev pub boundTo : Seat → ℕ → Option Cursor → Option Bindings → Seat
+boundTo s handle none b = s
+boundTo s handle (some c) none = s
+boundTo s handle (some c) (some b) = withCursor s handle (some (rebound c (b .width) (b .columns)))
+
+-- disconnect "closes both cursors, leaves the seat unconnected and writes nothing"; free cursor's "reply is _msg, three zero
+-- words and the seat's count of cursors still open, 20 bytes"; "Accepted bindings replace the old; .. the reply is 16 bytes:
+-- _msg, zero, zero, zero"
+abbrev pub doneOn : ℕ → Seat → List ℕ → SeatOutcome
+doneOn kind s m =
+    pick (eqb kind 0) (record { refusal = 0; reply = []; after = none })
+    (pick (eqb kind 1)
+    (record { refusal = 0; reply = fourWords (msgOf m) 0 0 0 ++ le 4 (stillOpen (freed s m)); after = some (freed s m) })
+    (record
+    { refusal = 0
+    ; reply = fourWords (msgOf m) 0 0 0
+    ; after = some (boundTo s (handleOf m) (cursorIn s (handleOf m)) (bindingsOn m))
+    }))
+
+abbrev pub doneBy : Option Seat → List ℕ → SeatOutcome
+doneBy none m = refusedOn 7 none m
+doneBy (some s) m = doneOn (kindOf (msgOf m)) s m
+
+unfoldable pub seatMessage : Option Seat → List ℕ → SeatOutcome
+seatMessage held m =
+    pick (eqb (firstCause (seatCauses held m)) 0) (doneBy held m) (refusedOn (firstCause (seatCauses held m)) held m)

@@ -1,0 +1,148 @@
+// What a message does to its seat: refusals from 6 on, and the messages that send no rows.
+ghost use mathlib.Core.Path.{_≡_};
+ghost use mathlib.Core.Bool.{true};
+ghost use mathlib.Core.List.{_++_};
+ghost use mathlib.Core.Option.{none, some};
+ghost use Prim.Native.Nat.{_+_, _*_, _≤_, _<_};
+ghost use lib.ListN.{length, drop};
+ghost use Rattle.spans.specs.Laid.{lay, fourWords};
+ghost use Rattle.sessions.specs.Layout.{seatSize, cursorSize, cursorPlace, put};
+ghost use Rattle.sessions.specs.Seat.{cursorBlock, cursorIn, seatIn, seatOf};
+ghost use Rattle.sessions.specs.Well.{seatWell};
+ghost use Rattle.messages.specs.Refusal.{firstCause, statusOf};
+ghost use Rattle.messages.specs.Message.{kinds, kindFrom, kindOf, tested, msgOf, gateCauses, isOpen, stillOpen};
+
+// The answer to a message: the refusal number, else 0, and the count of reply bytes.
+pub struct Answered {
+    pub refusal: u32,
+    pub count: u32,
+}
+
+// The statuses of the refusals, by number; those of 0 to 5 are never sent.
+const STATUSES: [u32; 17] = [
+    0, 0, 0, 0, 0, 0, 0xC000000D, 0xC000000D, 0xC000000D, 0xC000000D, 0x80004005, 0x8000FFFF,
+    0x80040E08, 0xC00000BB, 0xC000009A, 0xC0000023, 0xC000000D,
+];
+
+// The messages served: each its number, and 1 where its checksum is tested.
+const MESSAGES: [u32; 6] = [0xC9, 0, 0xCB, 0, 0xD0, 1];
+
+const KINDS: usize = 3;
+const FIRST: usize = 2;
+const SECOND: usize = 1076;
+const CURSOR_SIZE: usize = 1074;
+
+fn status(refusal: usize) -> u32
+    requires { ⌜ refusal < 17 ⌝ }
+    ensures { λ r. ⌜ r ≡ statusOf refusal ⌝ }
+{
+    STATUSES[refusal]
+}
+
+// The kind of a message: its place among those served, else their count.
+fn kind(msg: u32) -> usize
+    ensures { λ r. ⌜ r ≡ kindOf msg ⌝ }
+{
+    let mut k = 0;
+    while k < KINDS {
+        if MESSAGES[2 * k] == msg {
+            return k;
+        }
+        k += 1;
+    }
+    k
+}
+
+fn tested(kind: usize) -> bool
+    requires { ⌜ kind < kinds ⌝ }
+    ensures { λ r. ⌜ r ≡ tested kind ⌝ }
+{
+    MESSAGES[2 * kind + 1] == 1
+}
+
+// Refusals 6 to 8.
+fn gate(block: &[u32], m: &[u8], kind: usize) -> u32
+    requires { ⌜ (length (now block) ≡ seatSize) × (16 ≤ length (now m)) × (length (now m) ≤ 16384) × (kind ≡ kindOf (msgOf (now m))) ⌝ }
+    ensures { λ r. ⌜ r ≡ firstCause (gateCauses (seatOf (now (block .entry))) (now (m .entry))) ⌝ }
+{
+    if KINDS <= kind {
+        return 6;
+    }
+    if block[0] == 0 {
+        return 7;
+    }
+    if block[1] < 8 {
+        return 0;
+    }
+    if !tested(kind) {
+        return 0;
+    }
+    let told = words::word(m, 8) as u64;
+    if told == words::checksum(m) {
+        return 0;
+    }
+    8
+}
+
+// A refusal from 6 on: the header with its status.
+fn refuse(reply: &mut [u8], msg: u32, refusal: u32) -> Answered
+    requires { ⌜ (16 ≤ length (now reply)) × (refusal < 17) ⌝ }
+    ensures { λ r. ⌜ (r ≡ record { refusal = refusal; count = 16 }) × (now (reply .exit) ≡ lay (now (reply .entry)) 0 (fourWords msg (statusOf refusal) 0 0)) ⌝ }
+{
+    let sent = status(refusal as usize);
+    spans::lay_header(reply, msg, sent);
+    Answered { refusal, count: 16 }
+}
+
+// Whether a handle is open.
+fn is_open(block: &[u32], handle: u32) -> bool
+    requires { ⌜ length (now block) ≡ seatSize ⌝ }
+    ensures { λ r. ⌜ r ≡ isOpen (cursorIn (seatIn (now (block .entry))) handle) ⌝ }
+{
+    if handle == 1 {
+        return block[FIRST] != 0;
+    }
+    if handle == 2 {
+        return block[SECOND] != 0;
+    }
+    false
+}
+
+// How many cursors are open.
+fn open_count(block: &[u32]) -> u32
+    requires { ⌜ length (now block) ≡ seatSize ⌝ }
+    ensures { λ r. ⌜ r ≡ stillOpen (seatIn (now (block .entry))) ⌝ }
+{
+    let first = is_open(block, 1);
+    let second = is_open(block, 2);
+    if first {
+        if second {
+            return 2;
+        }
+        return 1;
+    }
+    if second {
+        return 1;
+    }
+    0
+}
+
+// The place of a handle's cursor.
+fn cursor_at(handle: u32) -> usize
+    ensures { λ r. ⌜ r ≡ cursorPlace handle ⌝ }
+{
+    if handle == 1 {
+        return FIRST;
+    }
+    SECOND
+}
+
+// Closes the cursor of a handle.
+fn close(block: &mut [u32], handle: u32)
+    requires { ⌜ length (now block) ≡ seatSize ⌝ }
+    ensures { λ _. ⌜ now (block .exit) ≡ put (now (block .entry)) (cursorPlace handle) cursorSize (cursorBlock none) ⌝ }
+{
+    let at = cursor_at(handle);
+    let end = at + CURSOR_SIZE;
+    sessions::clear(&mut block[at..end]);
+}

@@ -1,0 +1,3 @@
+pub mod Lay
+pub mod Lays
+pub mod Little
