@@ -1,4 +1,4 @@
--- The ways that reading a part of a column can go. Assumes nothing.
+-- The ways that reading a field of a column can go. Assumes nothing.
 use mathlib.Core.Path.{_≡_, sym, _∙_}
 use mathlib.Core.Bool.{Bool, true, false, not}
 use mathlib.Core.List.{List}

@@ -11,7 +11,7 @@ use Rattle.words.specs.Below.{both}
 use Rattle.words.proofs.Below.{by-test, both-left, both-right, both-true}
 use Rattle.columns.specs.Each.{every, pairwise}
 use Rattle.columns.specs.Column.{columnsMost}
-use Rattle.columns.specs.Property.{within, known, cellSize, statusSize, lengthSize}
+use Rattle.columns.specs.Property.{keyProperty, noteProperty, within, known, cellSize, statusSize, lengthSize}
 use Rattle.columns.specs.Fit.{isUsed, sized, typed, columnFits, differ, spanIf, spansOf, inside, apart, rowMost, columnsFit, fit}
 use Rattle.columns.specs.Sound.{column, span, Holds, Sound}
 use Rattle.columns.specs.declared.Value.{Value}
@@ -88,7 +88,7 @@ sound-fit width columns s =
     each =
         every-all columnFits columns _ (λ k h.
         both-true (known (column columns k .property)) (typed (size k) (column columns k .value))
-        (in-range 2 6 (column columns k .property) (s .known k h))
+        (in-range keyProperty noteProperty (column columns k .property) (s .known k h))
         (both-true (ltb 0 (size k)) (sized (size k) (column columns k .value))
         (lt-ltb 0 (size k) (s .typed k h))
         (sized-shown (size k) (column columns k .value) (s .sized k h))))

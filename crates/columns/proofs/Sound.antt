@@ -12,8 +12,8 @@ use Rattle.words.specs.Below.{both}
 use Rattle.words.proofs.Below.{by-test, both-left, both-right}
 use Rattle.columns.specs.Each.{every, pairwise}
 use Rattle.columns.specs.Column.{columnsMost}
-use Rattle.columns.specs.Property.{within, known, cellSize}
-use Rattle.columns.specs.Fit.{sized, typed, columnFits, differ, spansOf, inside, apart, rowMost, columnsFit, fit}
+use Rattle.columns.specs.Property.{keyProperty, noteProperty, within, known, cellSize}
+use Rattle.columns.specs.Fit.{sized, columnFits, differ, spansOf, inside, apart, rowMost, columnsFit, fit}
 use Rattle.columns.specs.Spans.{spanOf}
 use Rattle.columns.specs.Sound.{column, span, Holds, Sound}
 use Rattle.columns.specs.declared.Value.{Value}
@@ -68,7 +68,7 @@ fit-sound width columns e =
     record {
       count = range 1 columnsMost (length columns) (f .0);
       row = range 1 rowMost width (f .1);
-      known = λ k h. range 2 6 (column columns k .property) (parts (column columns k) (each k h) .0);
+      known = λ k h. range keyProperty noteProperty (column columns k .property) (parts (column columns k) (each k h) .0);
       once = λ j k h b. eqb-false (column columns j .property) (column columns k .property) (not-true _ (pair-index differ columns _ (p .1) j k h b));
       typed = λ k h. ltb-true 0 (size k) (parts (column columns k) (each k h) .1);
       sized = λ k h. sized-used (size k) (column columns k .value) (parts (column columns k) (each k h) .2);

@@ -12,8 +12,9 @@ use Rattle.words.specs.Below.{both, either}
 use Rattle.words.proofs.Below.{by-test}
 use Rattle.columns.specs.Each.{every, pairwise}
 use Rattle.columns.specs.Column.{columnAt, columnsFrom}
-use Rattle.columns.specs.Fit.{isUsed, spanIf, spansOf, inside, apart}
-use Rattle.columns.specs.Spans.{flagOf, placeOf, sizeOf, spanOr, spanAt, spansFrom}
+use Rattle.columns.specs.Fit.{isUsed, spansOf, inside, apart}
+use Rattle.columns.specs.Spans.{flagOf, spanOf, spanAt, partIf, spansFrom}
+use Rattle.columns.specs.declared.Column.{Column}
 use Rattle.columns.specs.declared.Span.{Span}
 
 abbrev pub none : Span
@@ -35,16 +36,15 @@ unfolding every
 none-apart [] = refl
 none-apart (b ∷ s) = rw (le-leb 0 (b .place) (omega arith)) (none-apart s)
 
--- a span in front of others: used or not, it is judged as what stands for it
-pub every-if : (test : Span → Bool) (flag place size : ℕ) (s : List Span) → test none ≡ true
-    → every test (spanIf flag place size s) ≡ both (test (spanOr flag place size)) (every test s)
+-- a part of a column in front of others: used or not, it is judged as what stands for it
+pub every-if : (test : Span → Bool) → test none ≡ true → (c : Column) (p : ℕ) (s : List Span)
+    → every test (partIf c p s) ≡ both (test (spanOf c p)) (every test s)
 unfolding every
-every-if test flag place size s e = by-test (isUsed flag) (λ q. rw q) (λ q. rw (q, e))
+every-if test e c p s = by-test (isUsed (flagOf c p)) (λ q. rw q) (λ q. rw (q, e))
 
-pub pair-if : (flag place size : ℕ) (s : List Span)
-    → pairwise apart (spanIf flag place size s) ≡ both (every (apart (spanOr flag place size)) s) (pairwise apart s)
+pub pair-if : (c : Column) (p : ℕ) (s : List Span) → pairwise apart (partIf c p s) ≡ both (every (apart (spanOf c p)) s) (pairwise apart s)
 unfolding pairwise
-pair-if flag place size s = by-test (isUsed flag) (λ q. rw q) (λ q. rw (q, none-apart s))
+pair-if c p s = by-test (isUsed (flagOf c p)) (λ q. rw q) (λ q. rw (q, none-apart s))
 
 -- no span is left, or one more
 pub spans-none : (left i : ℕ) (words : List ℕ) → left ≡ 0 → spansFrom left i words ≡ []
@@ -52,7 +52,7 @@ unfolding spansFrom
 spans-none left i words e = rw e
 
 spans-more : (left i : ℕ) (words : List ℕ) → 0 < left
-    → spansFrom left i words ≡ spanIf (flagOf (columnAt words (i / 3)) (i % 3)) (placeOf (columnAt words (i / 3)) (i % 3)) (sizeOf (columnAt words (i / 3)) (i % 3)) (spansFrom (left - 1) (i + 1) words)
+    → spansFrom left i words ≡ partIf (columnAt words (i / 3)) (i % 3) (spansFrom (left - 1) (i + 1) words)
 unfolding spansFrom
 spans-more zero i words h = absurd (not-suc-le-zero h)
 spans-more (suc n) i words h = rw (sub-one (suc n))
@@ -60,9 +60,7 @@ spans-more (suc n) i words h = rw (sub-one (suc n))
 module _ (left i : ℕ) (words : List ℕ) (h : 0 < left) where
   each : (test : Span → Bool) → test none ≡ true
       → every test (spansFrom left i words) ≡ both (test (spanAt words i)) (every test (spansFrom (left - 1) (i + 1) words))
-  each test e =
-      rw (spans-more left i words h)
-      (every-if test (flagOf (columnAt words (i / 3)) (i % 3)) (placeOf (columnAt words (i / 3)) (i % 3)) (sizeOf (columnAt words (i / 3)) (i % 3)) (spansFrom (left - 1) (i + 1) words) e)
+  each test e = rw (spans-more left i words h) (every-if test e (columnAt words (i / 3)) (i % 3) (spansFrom (left - 1) (i + 1) words))
 
   pub each-more : (test : Span → Bool) → test none ≡ true → test (spanAt words i) ≡ true
       → every test (spansFrom left i words) ≡ every test (spansFrom (left - 1) (i + 1) words)
@@ -74,9 +72,7 @@ module _ (left i : ℕ) (words : List ℕ) (h : 0 < left) where
 
   two : pairwise apart (spansFrom left i words)
       ≡ both (every (apart (spanAt words i)) (spansFrom (left - 1) (i + 1) words)) (pairwise apart (spansFrom (left - 1) (i + 1) words))
-  two =
-      rw (spans-more left i words h)
-      (pair-if (flagOf (columnAt words (i / 3)) (i % 3)) (placeOf (columnAt words (i / 3)) (i % 3)) (sizeOf (columnAt words (i / 3)) (i % 3)) (spansFrom (left - 1) (i + 1) words))
+  two = rw (spans-more left i words h) (pair-if (columnAt words (i / 3)) (i % 3) (spansFrom (left - 1) (i + 1) words))
 
   pub two-more : every (apart (spanAt words i)) (spansFrom (left - 1) (i + 1) words) ≡ true
       → pairwise apart (spansFrom left i words) ≡ pairwise apart (spansFrom (left - 1) (i + 1) words)

@@ -35,11 +35,12 @@ abbrev pub spanAt : List ℕ → ℕ → Span
 spanAt words i = spanOf (columnAt words (i / 3)) (i % 3)
 
 -- of n spans from the i-th on, those that are used
+abbrev pub partIf : Column → ℕ → List Span → List Span
+partIf c part rest = spanIf (flagOf c part) (placeOf c part) (sizeOf c part) rest
+
 unfoldable pub spansFrom : ℕ → ℕ → List ℕ → List Span
 spansFrom zero i words = []
-spansFrom (suc n) i words =
-    let c = columnAt words (i / 3) in
-    spanIf (flagOf c (i % 3)) (placeOf c (i % 3)) (sizeOf c (i % 3)) (spansFrom n (i + 1) words)
+spansFrom (suc n) i words = partIf (columnAt words (i / 3)) (i % 3) (spansFrom n (i + 1) words)
 
 abbrev pub spansMost : ℕ
 spansMost = 3 * columnsMost

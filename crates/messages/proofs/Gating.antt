@@ -2,17 +2,17 @@
 use mathlib.Core.Path.{_≡_, refl, sym, ap, _∙_}
 use mathlib.Core.Bool.{Bool, true, false, not}
 use mathlib.Core.List.{List, [], _∷_}
-use mathlib.Core.Option.{none, some}
+use mathlib.Core.Option.{Option, none, some}
 use Prim.Native.Nat.{ℕ, suc, _+_, _-_, _*_, _≤_, _<_}
 use native.Mathlib.Omega.{arith}
-use borrow.Author.Tests.{eq-eqb, ne-eqb, lt-ltb, le-ltb, le-leb, lt-leb}
+use borrow.Author.Tests.{eq-eqb, ne-eqb, lt-ltb, le-ltb, ltb-true, ltb-false, le-leb, lt-leb}
 use lib.Dec.{leb, ltb, eqb}
 use lib.ListN.{length, getD}
 use Rattle.words.specs.Below.{pick, both}
 use Rattle.words.specs.Word.{numberAt}
 use Rattle.words.specs.Checksum.{checksum, checksumTold}
 use Rattle.words.proofs.Below.{by-test}
-use Rattle.sessions.specs.Seat.{seatIn, seatOf}
+use Rattle.sessions.specs.Seat.{Seat, seatIn, seatOf}
 use Rattle.messages.specs.Refusal.{firstCause}
 use Rattle.messages.specs.Message.{messageTable, kinds, kindFrom, kindOf, served, tested, msgOf, checksumWrong, gateCauses}
 
@@ -62,3 +62,24 @@ module _ (b m : List ℕ) where
 pub told-is : (m : List ℕ) → 16 ≤ length m → length m ≤ 16384 → checksumTold m ≡ checksum m
 unfolding checksumTold
 told-is m l h = rw (le-leb 16 (length m) l, le-leb (length m) 16384 h)
+
+-- what holds where none of 6 to 8 applies, and how large a refusal is
+pub gate-served : (b m : List ℕ) → firstCause (gateCauses (seatOf b) m) ≡ 0 → kindOf (msgOf m) < kinds
+gate-served b m e =
+    by-test (ltb (kindOf (msgOf m)) kinds)
+    (λ q. ltb-true (kindOf (msgOf m)) kinds q)
+    (λ q. absurd (let z : _≡_ {A = ℕ} 6 0 = sym (not-served b m (ltb-false (kindOf (msgOf m)) kinds q)) ∙ e in omega arith))
+
+pub gate-connected : (b m : List ℕ) → firstCause (gateCauses (seatOf b) m) ≡ 0 → getD b 0 0 ≡ 0 → ⊥
+gate-connected b m e o = let z : _≡_ {A = ℕ} 7 0 = sym (unconnected b m (gate-served b m e) o) ∙ e in omega arith
+
+pub gate-small : (held : Option Seat) (m : List ℕ) → firstCause (gateCauses held m) < 17
+unfolding firstCause
+gate-small none m = by-test (served (msgOf m)) (λ q. rw q (omega arith)) (λ q. rw q (omega arith))
+gate-small (some s) m =
+    by-test (served (msgOf m))
+    (λ q.
+      by-test (checksumWrong (s .version) (kindOf (msgOf m)) m)
+      (λ w. rw (q, w) (omega arith))
+      (λ w. rw (q, w) (omega arith)))
+    (λ q. rw q (omega arith))

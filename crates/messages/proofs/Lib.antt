@@ -1,2 +1,6 @@
+pub mod First
 pub mod Gating
 pub mod Handles
+pub mod Answering
+pub mod Bodies
+pub mod Binding

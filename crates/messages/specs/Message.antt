@@ -5,13 +5,15 @@ use mathlib.Core.List.{List, [], _∷_, _++_}
 use mathlib.Core.Option.{Option, none, some}
 use Prim.Native.Nat.{ℕ, zero, suc, _+_, _*_}
 use lib.Dec.{leb, ltb, eqb}
-use lib.ListN.{length, getD}
+use lib.ListN.{length, getD, set}
 use Rattle.words.specs.Below.{pick, both}
 use Rattle.words.specs.Word.{numberAt, le}
 use Rattle.words.specs.Checksum.{checksum}
 use Rattle.columns.specs.Fit.{fit}
-use Rattle.bindings.specs.Bindings.{Bindings, bindingsOn}
+use Rattle.bindings.specs.Bindings.{Bindings}
+use Rattle.bindings.specs.Plain.{bindings}
 use Rattle.spans.specs.Laid.{fourWords}
+use Rattle.sessions.specs.Layout.{cursorSize, cursorPlace, columnsAt, widthAt, recordsAt, recordsSize, part, put}
 use Rattle.sessions.specs.Seat.{Cursor, Seat, cursorIn, withCursor, rebound}
 use Rattle.messages.specs.Refusal.{firstCause, statusOf}
 
@@ -70,7 +72,7 @@ abbrev pub bodyCauses : ℕ → Seat → List ℕ → List (ℕ × Bool)
 bodyCauses kind s m =
     pick (eqb kind 0) ((9, not (eqb (length m) 16)) ∷ [])
     (pick (eqb kind 1) ((9, not (eqb (length m) 20)) ∷ notOpen s m ∷ [])
-    ((9, unread (bindingsOn m)) ∷ notOpen s m ∷ (12, unfit (bindingsOn m)) ∷ []))
+    ((9, unread (bindings m)) ∷ notOpen s m ∷ (12, unfit (bindings m)) ∷ []))
 
 -- 6 "message number not served", 7 "anything else on an unconnected one", 8 "checksum tested and wrong"
 abbrev pub gateCauses : Option Seat → List ℕ → List (ℕ × Bool)
@@ -110,6 +112,12 @@ boundTo s handle none b = s
 boundTo s handle (some c) none = s
 boundTo s handle (some c) (some b) = withCursor s handle (some (rebound c (b .width) (b .columns)))
 
+-- the words of a seat with other bindings in the cursor of a handle
+abbrev pub reboundAt : List ℕ → ℕ → List ℕ → ℕ → ℕ → List ℕ
+reboundAt b handle records count width =
+    put b (cursorPlace handle) cursorSize
+    (put (set (set (part b (cursorPlace handle) cursorSize) columnsAt count) widthAt width) recordsAt recordsSize records)
+
 -- disconnect "closes both cursors, leaves the seat unconnected and writes nothing"; free cursor's "reply is _msg, three zero
 -- words and the seat's count of cursors still open, 20 bytes"; "Accepted bindings replace the old; .. the reply is 16 bytes:
 -- _msg, zero, zero, zero"
@@ -121,7 +129,7 @@ doneOn kind s m =
     (record
     { refusal = 0
     ; reply = fourWords (msgOf m) 0 0 0
-    ; after = some (boundTo s (handleOf m) (cursorIn s (handleOf m)) (bindingsOn m))
+    ; after = some (boundTo s (handleOf m) (cursorIn s (handleOf m)) (bindings m))
     }))
 
 abbrev pub doneBy : Option Seat → List ℕ → SeatOutcome

@@ -6,11 +6,12 @@ ghost use mathlib.Core.Option.{none, some};
 ghost use Prim.Native.Nat.{_+_, _*_, _≤_, _<_};
 ghost use lib.ListN.{length, drop};
 ghost use Rattle.spans.specs.Laid.{lay, fourWords};
-ghost use Rattle.sessions.specs.Layout.{seatSize, cursorSize, cursorPlace, put};
+ghost use Rattle.sessions.specs.Layout.{seatSize, cursorSize, cursorPlace, recordsSize, put};
 ghost use Rattle.sessions.specs.Seat.{cursorBlock, cursorIn, seatIn, seatOf};
 ghost use Rattle.sessions.specs.Well.{seatWell};
 ghost use Rattle.messages.specs.Refusal.{firstCause, statusOf};
-ghost use Rattle.messages.specs.Message.{kinds, kindFrom, kindOf, tested, msgOf, gateCauses, isOpen, stillOpen};
+ghost use Rattle.messages.specs.Message.{kinds, kindFrom, kindOf, tested, msgOf, gateCauses, isOpen, stillOpen, seatMessage, reboundAt};
+ghost use Rattle.messages.specs.Answers.{Given, Admitted, Answers};
 
 // The answer to a message: the refusal number, else 0, and the count of reply bytes.
 pub struct Answered {
@@ -145,4 +146,99 @@ fn close(block: &mut [u32], handle: u32)
     let at = cursor_at(handle);
     let end = at + CURSOR_SIZE;
     sessions::clear(&mut block[at..end]);
+}
+
+// Disconnect: both cursors are closed, and the seat is left unconnected.
+fn disconnect(block: &mut [u32], m: &[u8], reply: &mut [u8], msg: u32) -> Answered
+    requires { ⌜ Admitted (now block) (now m) (now reply) msg 0 ⌝ }
+    ensures { λ r. ⌜ Answers (seatMessage (seatOf (now (block .entry))) (now (m .entry))) r (now (block .exit)) (now (reply .entry)) (now (reply .exit)) ⌝ }
+{
+    if m.len() != 16 {
+        return refuse(reply, msg, 9);
+    }
+    sessions::clear(block);
+    Answered {
+        refusal: 0,
+        count: 0,
+    }
+}
+
+// Free cursor: the reply counts the cursors still open.
+fn free(block: &mut [u32], m: &[u8], reply: &mut [u8], msg: u32) -> Answered
+    requires { ⌜ Admitted (now block) (now m) (now reply) msg 1 ⌝ }
+    ensures { λ r. ⌜ Answers (seatMessage (seatOf (now (block .entry))) (now (m .entry))) r (now (block .exit)) (now (reply .entry)) (now (reply .exit)) ⌝ }
+{
+    if m.len() != 20 {
+        return refuse(reply, msg, 9);
+    }
+    let handle = words::word(m, 16);
+    if !is_open(block, handle) {
+        return refuse(reply, msg, 10);
+    }
+    close(block, handle);
+    let left = open_count(block);
+    spans::lay_header(reply, msg, 0);
+    spans::lay_word(reply, 16, left as u64);
+    Answered {
+        refusal: 0,
+        count: 20,
+    }
+}
+
+// Sets the bindings of the cursor of a handle.
+fn rebind(block: &mut [u32], handle: u32, records: &[u32], count: u32, width: u32)
+    requires { ⌜ (length (now block) ≡ seatSize) × (length (now records) ≡ recordsSize) ⌝ }
+    ensures { λ _. ⌜ now (block .exit) ≡ reboundAt (now (block .entry)) handle (now (records .entry)) count width ⌝ }
+{
+    let at = cursor_at(handle);
+    let end = at + CURSOR_SIZE;
+    sessions::bind(&mut block[at..end], records, count, width);
+}
+
+// Set bindings: they replace the old, and the position stays.
+fn bind(block: &mut [u32], m: &[u8], reply: &mut [u8], msg: u32) -> Answered
+    requires { ⌜ Admitted (now block) (now m) (now reply) msg 2 ⌝ }
+    ensures { λ r. ⌜ Answers (seatMessage (seatOf (now (block .entry))) (now (m .entry))) r (now (block .exit)) (now (reply .entry)) (now (reply .exit)) ⌝ }
+{
+    let mut records = [0u32; 45];
+    let read = bindings::read(m, &mut records);
+    let malformed = read.malformed;
+    let handle = read.handle;
+    let count = read.count;
+    let width = read.width;
+    if malformed {
+        return refuse(reply, msg, 9);
+    }
+    if !is_open(block, handle) {
+        return refuse(reply, msg, 10);
+    }
+    if !columns::fit(&records, count, width) {
+        return refuse(reply, msg, 12);
+    }
+    rebind(block, handle, &records, count, width);
+    spans::lay_header(reply, msg, 0);
+    Answered {
+        refusal: 0,
+        count: 16,
+    }
+}
+
+// A message on its seat's block.
+pub fn answer(block: &mut [u32], m: &[u8], reply: &mut [u8]) -> Answered
+    requires { ⌜ Given (now block) (now m) (now reply) ⌝ }
+    ensures { λ r. ⌜ Answers (seatMessage (seatOf (now (block .entry))) (now (m .entry))) r (now (block .exit)) (now (reply .entry)) (now (reply .exit)) ⌝ }
+{
+    let msg = words::word(m, 0);
+    let kind = kind(msg);
+    let refusal = gate(block, m, kind);
+    if refusal != 0 {
+        return refuse(reply, msg, refusal);
+    }
+    if kind == 0 {
+        return disconnect(block, m, reply, msg);
+    }
+    if kind == 1 {
+        return free(block, m, reply, msg);
+    }
+    bind(block, m, reply, msg)
 }

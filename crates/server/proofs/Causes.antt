@@ -16,31 +16,9 @@ use Rattle.catalogue.proofs.Agree.{accepted, catalogue-agrees, rows-counted}
 use Rattle.sessions.specs.Layout.{seats}
 use Rattle.sessions.specs.Well.{tableWell, tableBelow}
 use Rattle.messages.specs.Refusal.{firstCause}
+use Rattle.messages.proofs.First.{Numbered}
 use Rattle.server.specs.Step.{Sources, sourcesOf, rowsHold, judging}
 use Rattle.server.specs.Judgement.{Judgement}
-
--- a cause that applies among the first of a list is the list's
-pub first-stop : (a b : List (ℕ × Bool)) (n : ℕ) → firstCause a ≡ n → (n ≡ 0 → ⊥) → firstCause (a ++ b) ≡ n
-unfolding firstCause
-first-stop [] b n e z = absurd (z (sym e))
-first-stop (c ∷ a) b n e z =
-    by-test (c .1)
-    (λ q. rw q (rw q at e))
-    (λ q. rw q (first-stop a b n (rw q at e) z))
-
--- no number of a list is zero
-abbrev pub Numbered : List (ℕ × Bool) → Type 0
-Numbered [] = Unit {0}
-Numbered (c ∷ a) = (c .0 ≡ 0 → ⊥) × Numbered a
-
--- where none of them applies, the others decide
-pub first-go : (a b : List (ℕ × Bool)) → Numbered a → firstCause a ≡ 0 → firstCause (a ++ b) ≡ firstCause b
-unfolding firstCause
-first-go [] b n e = refl
-first-go (c ∷ a) b n e =
-    by-test (c .1)
-    (λ q. absurd (n .0 (rw q at e)))
-    (λ q. rw q (first-go a b (n .1) (rw q at e)))
 
 pub judging-numbered : (src : Sources) (t : List ℕ) (seat : ℕ) → Numbered (judging src t seat)
 judging-numbered src t seat = ((λ e. omega arith), ((λ e. omega arith), ((λ e. omega arith), tt)))

@@ -10,7 +10,8 @@ use lib.Dec.{eqb}
 use Rattle.sessions.specs.Seat.{fresh}
 use Rattle.messages.specs.Refusal.{firstCause}
 use Rattle.server.specs.Step.{Sources, Outcome, Keeps, quiet, judging, seatHeld, isConnected, seated, connectCauses, connectStep}
-use Rattle.server.proofs.Causes.{first-stop, first-go, judging-numbered}
+use Rattle.messages.proofs.First.{first-stop, first-go}
+use Rattle.server.proofs.Causes.{judging-numbered}
 
 -- an outcome of which nothing is written
 quietly : (o : Outcome) (n : ℕ) (words : List ℕ) → o ≡ quiet n words → Keeps o n 0 0 words [] []

@@ -34,7 +34,10 @@ same-length-2 : tie.Need-same-length-2
 same-length-2 c = search needs
 
 returns-2 : tie.Need-returns-2
-returns-2 c = told-described (c .before .before .before .before .before .before .before .before .before .before .args .m .now) (c .refused2 .result) (c .before .before .before .before .before .before .clear .last .0) (c .refused2 .ensures) (c .before .before .before .before .before .before .clear .ensures) (c .before .before .before .if1 .left) (λ e. c .before .if2 .taken (c .before .before .word .ensures ∙ e))
+returns-2 c =
+    told-described (c .before .before .before .before .before .before .before .before .before .before .args .m .now) (c .refused2 .result) (c .before .before .before .before .before .before .clear .last .0) (c .refused2 .ensures) (c .before .before .before .before .before .before .clear .ensures)
+    (c .before .before .before .if1 .left)
+    (λ e. c .before .if2 .taken (c .before .before .word .ensures ∙ e))
 
 word-requires-2 : tie.Need-word-requires-2
 word-requires-2 c κs = search needs
@@ -52,7 +55,18 @@ same-length-3 : tie.Need-same-length-3
 same-length-3 c = search needs
 
 returns-3 : tie.Need-returns-3
-returns-3 c = told-columns (c .before .before .before .before .before .before .before .before .before .before .before .before .before .before .before .before .before .before .before .before .args .m .now) (c .refused3 .result) (c .before .before .before .clear2 .last .0) (c .refused3 .ensures) (c .before .before .before .clear2 .ensures) (c .before .before .before .before .before .before .before .before .before .before .before .before .before .if1 .left) (sym (c .before .before .before .before .before .before .before .before .before .before .before .before .word .ensures) ∙ c .before .before .before .before .before .before .before .before .before .before .before .if2 .left) (c .before .before .before .before .before .before .before .before .before .before .word2 .result) (c .before .before .before .before .before .before .before .before .before .before .word2 .ensures) (c .before .before .before .before .before .before .before .before .read-columns .result) (not-true _ (c .before .before .before .before .before .if3 .taken)) (c .before .before .before .before .before .before .before .before .before .before .before .before .before .before .before .before .clear .last .0) (c .before .before .before .before .before .before .before .before .read-columns .last .1 .1 .0) (c .before .before .before .before .before .before .before .before .read-columns .ensures)
+returns-3 c =
+    let r = c .before .before .before .before .before .before .before .before in
+    told-columns (r .before .before .before .before .before .before .before .before .before .before .before .before .args .m .now) (c .refused3 .result) (c .before .before .before .clear2 .last .0) (c .refused3 .ensures) (c .before .before .before .clear2 .ensures)
+    (r .before .before .before .before .before .if1 .left)
+    (sym (r .before .before .before .before .word .ensures) ∙ r .before .before .before .if2 .left)
+    (r .before .before .word2 .result)
+    (r .before .before .word2 .ensures)
+    (r .read-columns .result)
+    (not-true _ (c .before .before .before .before .before .if3 .taken))
+    (r .before .before .before .before .before .before .before .before .clear .last .0)
+    (r .read-columns .last .1 .1 .0)
+    (r .read-columns .ensures)
 
 word-requires-3 : tie.Need-word-requires-3
 word-requires-3 c κs = search needs
@@ -64,7 +78,18 @@ same-length-4 : tie.Need-same-length-4
 same-length-4 c = search needs
 
 returns-4 : tie.Need-returns-4
-returns-4 c = told-some (c .before .before .before .before .before .before .before .before .before .before .before .before .before .before .before .before .before .args .m .now) (c .before .word3 .result) (c .word4 .result) (c .before .before .before .before .before .before .before .word2 .result) (c .before .before .before .before .before .before .before .before .before .before .before .before .before .clear .last .0) (c .before .before .before .before .before .read-columns .last .1 .1 .0) (c .before .before .before .before .before .before .before .before .before .before .if1 .left) (sym (c .before .before .before .before .before .before .before .before .before .word .ensures) ∙ c .before .before .before .before .before .before .before .before .if2 .left) (c .before .word3 .ensures) (c .word4 .ensures) (c .before .before .before .before .before .before .before .word2 .ensures) (c .before .before .before .before .before .before .before .before .before .before .before .before .before .clear .ensures) (c .before .before .before .before .before .read-columns .result) (not-false _ (c .before .before .if3 .left)) (c .before .before .before .before .before .read-columns .ensures)
+returns-4 c =
+    let r = c .before .before .before .before .before in
+    told-some (r .before .before .before .before .before .before .before .before .before .before .before .before .args .m .now) (c .before .word3 .result) (c .word4 .result) (r .before .before .word2 .result) (r .before .before .before .before .before .before .before .before .clear .last .0) (r .read-columns .last .1 .1 .0)
+    (r .before .before .before .before .before .if1 .left)
+    (sym (r .before .before .before .before .word .ensures) ∙ r .before .before .before .if2 .left)
+    (c .before .word3 .ensures)
+    (c .word4 .ensures)
+    (r .before .before .word2 .ensures)
+    (r .before .before .before .before .before .before .before .before .clear .ensures)
+    (r .read-columns .result)
+    (not-false _ (c .before .before .if3 .left))
+    (r .read-columns .ensures)
 
 pub read-spec : {M : Type 1} → statement M
 read-spec =

@@ -32,8 +32,13 @@ same-length : tie.Need-same-length Inv-loop μ-loop
 same-length c = omega (arith, c .before .before .before .before .loop .inv .1, c .before .before .before .before .before .before .before .pre)
 
 returns : tie.Need-returns Inv-loop μ-loop
-returns c = let l = c .before .before .before .before .loop in let m = c .before .before .before .before .before .before .before .args .m .now in
-    sym (l .inv .2 ∙ ap (keeping (l .k) (l .words)) (columns-unpadded (l .left) m (l .at) (c .before .before .before .loop-test .taken) (sym (c .before .before .padded-on .ensures) ∙ c .enum-told .given .1)))
+returns c =
+    let l = c .before .before .before .before .loop in
+    let m = c .before .before .before .before .before .before .before .args .m .now in
+    sym
+    (l .inv .2
+    ∙ ap (keeping (l .k) (l .words))
+    (columns-unpadded (l .left) m (l .at) (c .before .before .before .loop-test .taken) (sym (c .before .before .padded-on .ensures) ∙ c .enum-told .given .1)))
 
 column-on-requires : tie.Need-column-on-requires Inv-loop μ-loop
 column-on-requires c κs = search needs
@@ -48,8 +53,15 @@ same-length-2 : tie.Need-same-length-2 Inv-loop μ-loop
 same-length-2 c = omega (arith, c .before .before .before .before .before .before .before .before .loop .inv .1, c .before .before .before .before .before .before .before .before .before .before .before .pre)
 
 returns-2 : tie.Need-returns-2 Inv-loop μ-loop
-returns-2 c = let l = c .before .before .before .before .before .before .before .before .loop in let m = c .before .before .before .before .before .before .before .before .before .before .before .args .m .now in
-    sym (l .inv .2 ∙ ap (keeping (l .k) (l .words)) (columns-broken (l .left) m (l .at) (c .before .before .before .before .before .before .before .loop-test .taken) (c .before .before .before .before .place .given .0 .0) (sym (c .before .before .before .before .before .before .padded-on .ensures) ∙ c .before .before .before .before .place .given .1) (sym (c .before .before .column-on .ensures) ∙ c .enum-told2 .given .1)))
+returns-2 c =
+    let l = c .before .before .before .before .before .before .before .before .loop in
+    let m = c .before .before .before .before .before .before .before .before .before .before .before .args .m .now in
+    sym
+    (l .inv .2
+    ∙ ap (keeping (l .k) (l .words))
+    (columns-broken (l .left) m (l .at) (c .before .before .before .before .before .before .before .loop-test .taken) (c .before .before .before .before .place .given .0 .0)
+    (sym (c .before .before .before .before .before .before .padded-on .ensures) ∙ c .before .before .before .before .place .given .1)
+    (sym (c .before .before .column-on .ensures) ∙ c .enum-told2 .given .1)))
 
 keep-requires : tie.Need-keep-requires Inv-loop μ-loop
 keep-requires c κs = c .before .before .before .before .before .before .before .before .before .before .loop .inv .1
@@ -64,13 +76,19 @@ loop-less : tie.Need-loop-less Inv-loop μ-loop
 loop-less c = omega (arith, c .before .before .before .before .before .before .before .before .before .before .before .before .loop-test .taken)
 
 loop-again : tie.Need-loop-again Inv-loop μ-loop
-loop-again c = let l = c .before .before .before .before .before .before .before .before .before .before .before .before .before .loop in let m = c .before .before .before .before .before .before .before .before .before .before .before .before .before .before .before .before .args .m .now in
+loop-again c =
+    let l = c .before .before .before .before .before .before .before .before .before .before .before .before .before .loop in
+    let m = c .before .before .before .before .before .before .before .before .before .before .before .before .before .before .before .before .args .m .now in
     let next = c .before .before .before .before .before .column .given .0 .1 .0 in
     let col = c .before .before .before .before .before .column .given .0 .0 in (
       omega (arith, l .inv .0, c .before .before .before .before .before .before .before .before .before .before .before .before .loop-test .taken),
       c .before .before .keep .kept .0 ∙ l .inv .1,
       l .inv .2
-          ∙ ap (keeping (l .k) (l .words)) (columns-more (l .left) m (l .at) (c .before .before .before .before .before .before .before .before .before .before .before .before .loop-test .taken) (c .before .before .before .before .before .before .before .before .before .place .given .0 .0) (sym (c .before .before .before .before .before .before .before .before .before .before .before .padded-on .ensures) ∙ c .before .before .before .before .before .before .before .before .before .place .given .1) col next (sym (c .before .before .before .before .before .before .before .column-on .ensures) ∙ c .before .before .before .before .before .column .given .1))
+          ∙ ap (keeping (l .k) (l .words))
+          (columns-more (l .left) m (l .at) (c .before .before .before .before .before .before .before .before .before .before .before .before .loop-test .taken) (c .before .before .before .before .before .before .before .before .before .place .given .0 .0)
+          (sym (c .before .before .before .before .before .before .before .before .before .before .before .padded-on .ensures) ∙ c .before .before .before .before .before .before .before .before .before .place .given .1)
+          col next
+          (sym (c .before .before .before .before .before .before .before .column-on .ensures) ∙ c .before .before .before .before .before .column .given .1))
           ∙ keeping-more (l .k) (l .words) col (columnsOn (l .left - 1) m next)
           ∙ ap (λ (w : List ℕ). keeping (l .k + 1) w (columnsOn (l .left - 1) m next)) (sym (c .before .before .keep .ensures)),
     )

@@ -40,17 +40,26 @@ unbound-requires : tie.Need-unbound-requires Inv-loop μ-loop
 unbound-requires c κs = search needs
 
 returns : tie.Need-returns Inv-loop μ-loop
-returns c = let l = c .before .before .before .before .loop in
+returns c =
+    let l = c .before .before .before .before .loop in
     let words = c .before .before .before .before .before .before .args .words .now in
-    sym (l .inv .1 ∙ pair-stop differ (from-more (l .left) (l .k) words (c .before .before .before .loop-test .taken)) (sym (c .before .unbound .ensures) ∙ not-true _ (c .if1 .taken)))
+    sym
+    (l .inv .1
+    ∙ pair-stop differ (from-more (l .left) (l .k) words (c .before .before .before .loop-test .taken))
+    (sym (c .before .unbound .ensures) ∙ not-true _ (c .if1 .taken)))
 
 loop-less : tie.Need-loop-less Inv-loop μ-loop
 loop-less c = search needs
 
 loop-again : tie.Need-loop-again Inv-loop μ-loop
-loop-again c = let l = c .before .before .before .before .loop in
-    let words = c .before .before .before .before .before .before .args .words .now in
-    (omega arith, l .inv .1 ∙ pair-more differ (from-more (l .left) (l .k) words (c .before .before .before .loop-test .taken)) (sym (c .before .unbound .ensures) ∙ not-false _ (c .if1 .left)))
+loop-again c =
+    let l = c .before .before .before .before .loop in
+    let words = c .before .before .before .before .before .before .args .words .now in (
+      omega arith,
+      l .inv .1
+          ∙ pair-more differ (from-more (l .left) (l .k) words (c .before .before .before .loop-test .taken))
+          (sym (c .before .unbound .ensures) ∙ not-false _ (c .if1 .left)),
+    )
 
 returns-2 : tie.Need-returns-2 Inv-loop μ-loop
 returns-2 c = let l = c .before .loop in

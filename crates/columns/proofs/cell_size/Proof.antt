@@ -18,10 +18,20 @@ number-size-requires : tie.Need-number-size-requires
 number-size-requires c κs = search needs
 
 returns-2 : tie.Need-returns-2
-returns-2 c = simp (ne-eqb _ _ (c .before .before .before .before .before .if1 .left), sym (c .before .before .before .before .within .ensures) ∙ c .before .before .before .if2 .taken, eq-eqb _ _ (c .before .if3 .taken ∙ c .before .before .number-type .ensures)) (c .number-size .ensures)
+returns-2 c =
+    simp (
+      ne-eqb _ _ (c .before .before .before .before .before .if1 .left),
+      sym (c .before .before .before .before .within .ensures) ∙ c .before .before .before .if2 .taken,
+      eq-eqb _ _ (c .before .if3 .taken ∙ c .before .before .number-type .ensures),
+    ) (c .number-size .ensures)
 
 returns-3 : tie.Need-returns-3
-returns-3 c = simp (ne-eqb _ _ (c .before .before .before .before .if1 .left), sym (c .before .before .before .within .ensures) ∙ c .before .before .if2 .taken, ne-eqb _ _ (λ e. c .if3 .left (e ∙ sym (c .before .number-type .ensures))))
+returns-3 c =
+    simp (
+      ne-eqb _ _ (c .before .before .before .before .if1 .left),
+      sym (c .before .before .before .within .ensures) ∙ c .before .before .if2 .taken,
+      ne-eqb _ _ (λ e. c .if3 .left (e ∙ sym (c .before .number-type .ensures))),
+    )
 
 returns-4 : tie.Need-returns-4
 returns-4 c = simp (ne-eqb _ _ (c .before .before .if1 .left), sym (c .before .within .ensures) ∙ c .if2 .left)

@@ -25,9 +25,13 @@ column-fits-requires : tie.Need-column-fits-requires Inv-loop μ-loop
 column-fits-requires c κs = search needs
 
 returns : tie.Need-returns Inv-loop μ-loop
-returns c = let l = c .before .before .before .loop in
+returns c =
+    let l = c .before .before .before .loop in
     let words = c .before .before .before .before .before .args .words .now in
-    sym (l .inv .1 ∙ every-stop columnFits (from-more (l .left) (l .k) words (c .before .before .loop-test .taken)) (sym (c .before .column-fits .ensures) ∙ not-true _ (c .if1 .taken)))
+    sym
+    (l .inv .1
+    ∙ every-stop columnFits (from-more (l .left) (l .k) words (c .before .before .loop-test .taken))
+    (sym (c .before .column-fits .ensures) ∙ not-true _ (c .if1 .taken)))
 
 add-k : tie.Need-add-k Inv-loop μ-loop
 add-k c = search needs
@@ -39,9 +43,14 @@ loop-less : tie.Need-loop-less Inv-loop μ-loop
 loop-less c = search needs
 
 loop-again : tie.Need-loop-again Inv-loop μ-loop
-loop-again c = let l = c .before .before .before .loop in
-    let words = c .before .before .before .before .before .args .words .now in
-    (omega arith, l .inv .1 ∙ every-more columnFits (from-more (l .left) (l .k) words (c .before .before .loop-test .taken)) (sym (c .before .column-fits .ensures) ∙ not-false _ (c .if1 .left)))
+loop-again c =
+    let l = c .before .before .before .loop in
+    let words = c .before .before .before .before .before .args .words .now in (
+      omega arith,
+      l .inv .1
+          ∙ every-more columnFits (from-more (l .left) (l .k) words (c .before .before .loop-test .taken))
+          (sym (c .before .column-fits .ensures) ∙ not-false _ (c .if1 .left)),
+    )
 
 returns-2 : tie.Need-returns-2 Inv-loop μ-loop
 returns-2 c = let l = c .before .loop in

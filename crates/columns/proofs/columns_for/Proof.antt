@@ -19,7 +19,11 @@ bound-once-requires c κs = search needs
 
 returns-2 : tie.Need-returns-2
 unfolding columnsFit
-returns-2 c = rw (sym (c .before .before .before .columns-fit .ensures) ∙ not-false _ (c .before .before .if1 .left), sym (c .before .bound-once .ensures) ∙ not-true _ (c .if2 .taken))
+returns-2 c =
+    rw (
+      sym (c .before .before .before .columns-fit .ensures) ∙ not-false _ (c .before .before .if1 .left),
+      sym (c .before .bound-once .ensures) ∙ not-true _ (c .if2 .taken),
+    )
 
 mul-total : tie.Need-mul-total
 mul-total c = search needs
@@ -29,7 +33,8 @@ all-inside-requires c κs = search needs
 
 returns-3 : tie.Need-returns-3
 unfolding columnsFit
-returns-3 c = let a = c .before .before .before .before .before .before .before .args in
+returns-3 c =
+    let a = c .before .before .before .before .before .before .before .args in
     rw (
       sym (c .before .before .before .before .before .columns-fit .ensures) ∙ not-false _ (c .before .before .before .before .if1 .left),
       sym (c .before .before .before .bound-once .ensures) ∙ not-false _ (c .before .before .if2 .left),
@@ -42,7 +47,8 @@ none-meet-requires c κs = search needs
 
 returns-4 : tie.Need-returns-4
 unfolding columnsFit
-returns-4 c = let a = c .before .before .before .before .before .before .before .before .args in
+returns-4 c =
+    let a = c .before .before .before .before .before .before .before .before .args in
     rw (
       sym (c .before .before .before .before .before .before .columns-fit .ensures) ∙ not-false _ (c .before .before .before .before .before .if1 .left),
       sym (c .before .before .before .before .bound-once .ensures) ∙ not-false _ (c .before .before .before .if2 .left),

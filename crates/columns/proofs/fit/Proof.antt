@@ -22,17 +22,30 @@ within-requires-2 c κs = search needs
 
 returns-2 : tie.Need-returns-2
 unfolding fit
-returns-2 c = let a = c .before .before .before .before .before .args in
-    rw (from-length (a .count) 0 (a .words .now), sym (c .before .before .before .within .ensures) ∙ not-false _ (c .before .before .if1 .left), sym (c .before .within2 .ensures) ∙ not-true _ (c .if2 .taken))
+returns-2 c =
+    let a = c .before .before .before .before .before .args in
+    rw (
+      from-length (a .count) 0 (a .words .now),
+      sym (c .before .before .before .within .ensures) ∙ not-false _ (c .before .before .if1 .left),
+      sym (c .before .within2 .ensures) ∙ not-true _ (c .if2 .taken),
+    )
 
 columns-for-requires : tie.Need-columns-for-requires
-columns-for-requires c κs = let a = c .before .before .before .before .before .args in
-    (search needs, leb-true (a .count) 5 (both-right (leb 1 (a .count)) (leb (a .count) 5) (sym (c .before .before .before .within .ensures) ∙ not-false _ (c .before .before .if1 .left))))
+columns-for-requires c κs =
+    let a = c .before .before .before .before .before .args in (
+      search needs,
+      leb-true (a .count) 5 (both-right (leb 1 (a .count)) (leb (a .count) 5) (sym (c .before .before .before .within .ensures) ∙ not-false _ (c .before .before .if1 .left))),
+    )
 
 returns-3 : tie.Need-returns-3
 unfolding fit
-returns-3 c = let a = c .before .before .before .before .before .before .args in
-    rw (from-length (a .count) 0 (a .words .now), sym (c .before .before .before .before .within .ensures) ∙ not-false _ (c .before .before .before .if1 .left), sym (c .before .before .within2 .ensures) ∙ not-false _ (c .before .if2 .left)) (c .columns-for .ensures)
+returns-3 c =
+    let a = c .before .before .before .before .before .before .args in
+    rw (
+      from-length (a .count) 0 (a .words .now),
+      sym (c .before .before .before .before .within .ensures) ∙ not-false _ (c .before .before .before .if1 .left),
+      sym (c .before .before .within2 .ensures) ∙ not-false _ (c .before .if2 .left),
+    ) (c .columns-for .ensures)
 
 pub fit-spec : {M : Type 1} → statement M
 fit-spec =

@@ -99,8 +99,15 @@ same-length : tie.Need-same-length
 same-length c = simp length-set
 
 returns-2 : tie.Need-returns-2
-returns-2 c = let a = c .before .args in
-    rw (lt-ltb (a .k) 5 (c .if1 .left)) (nine-stores (a .words .now) (9 * a .k) (a .c .property) (a .c .vtype) (a .c .value .used) (a .c .value .offset) (a .c .value .size) (a .c .status .used) (a .c .status .offset) (a .c .length .used) (a .c .length .offset) (omega arith))
+returns-2 c =
+    let a = c .before .args in
+    let d = a .c in
+    rw (lt-ltb (a .k) 5 (c .if1 .left))
+    (nine-stores (a .words .now) (9 * a .k) (d .property) (d .vtype)
+    (d .value .used) (d .value .offset) (d .value .size)
+    (d .status .used) (d .status .offset)
+    (d .length .used) (d .length .offset)
+    (omega arith))
 
 pub keep-spec : {M : Type 1} → statement M
 keep-spec =

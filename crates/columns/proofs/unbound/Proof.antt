@@ -14,7 +14,9 @@ use borrow.Author.Tests.{eq-eqb, ne-eqb}
 use lib.ListN.{getD}
 
 abbrev Inv-loop : tie.InvT-loop
-Inv-loop words from count property k₀ left₀ k left = (k + left ≡ from + count) × (every (unlike property) (columnsFrom count from words) ≡ every (unlike property) (columnsFrom left k words))
+Inv-loop words from count property k₀ left₀ k left =
+    (k + left ≡ from + count)
+    × (every (unlike property) (columnsFrom count from words) ≡ every (unlike property) (columnsFrom left k words))
 
 abbrev μ-loop : tie.MeasureT-loop
 μ-loop words from count property k₀ left₀ k left = left

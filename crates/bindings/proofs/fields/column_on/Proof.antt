@@ -29,7 +29,8 @@ enum-told-2 c = search needs
 
 returns-2 : tie.Need-returns-2
 unfolding columnOn
-returns-2 c = rw (sym (c .before .before .before .before .before .before .property-on .ensures) ∙ c .before .before .before .before .property .given .1, sym (c .before .before .number-on .ensures) ∙ c .enum-told2 .given .1)
+returns-2 c =
+    rw (sym (c .before .before .before .before .before .before .property-on .ensures) ∙ c .before .before .before .before .property .given .1, sym (c .before .before .number-on .ensures) ∙ c .enum-told2 .given .1)
 
 value-on-requires : tie.Need-value-on-requires
 value-on-requires c κs = search needs
@@ -42,7 +43,12 @@ enum-told-3 c = search needs
 
 returns-3 : tie.Need-returns-3
 unfolding columnOn
-returns-3 c = rw (sym (c .before .before .before .before .before .before .before .before .before .before .property-on .ensures) ∙ c .before .before .before .before .before .before .before .before .property .given .1, sym (c .before .before .before .before .before .before .number-on .ensures) ∙ c .before .before .before .before .vtype .given .1, sym (c .before .before .value-on .ensures) ∙ c .enum-told3 .given .1)
+returns-3 c =
+    rw (
+      sym (c .before .before .before .before .before .before .before .before .before .before .property-on .ensures) ∙ c .before .before .before .before .before .before .before .before .property .given .1,
+      sym (c .before .before .before .before .before .before .number-on .ensures) ∙ c .before .before .before .before .vtype .given .1,
+      sym (c .before .before .value-on .ensures) ∙ c .enum-told3 .given .1,
+    )
 
 spot-on-requires : tie.Need-spot-on-requires
 spot-on-requires c κs = search needs
@@ -55,7 +61,13 @@ enum-told-4 c = search needs
 
 returns-4 : tie.Need-returns-4
 unfolding columnOn
-returns-4 c = rw (sym (c .before .before .before .before .before .before .before .before .before .before .before .before .before .before .property-on .ensures) ∙ c .before .before .before .before .before .before .before .before .before .before .before .before .property .given .1, sym (c .before .before .before .before .before .before .before .before .before .before .number-on .ensures) ∙ c .before .before .before .before .before .before .before .before .vtype .given .1, sym (c .before .before .before .before .before .before .value-on .ensures) ∙ c .before .before .before .before .value .given .1, sym (c .before .before .spot-on .ensures) ∙ c .enum-told4 .given .1)
+returns-4 c =
+    rw (
+      sym (c .before .before .before .before .before .before .before .before .before .before .before .before .before .before .property-on .ensures) ∙ c .before .before .before .before .before .before .before .before .before .before .before .before .property .given .1,
+      sym (c .before .before .before .before .before .before .before .before .before .before .number-on .ensures) ∙ c .before .before .before .before .before .before .before .before .vtype .given .1,
+      sym (c .before .before .before .before .before .before .value-on .ensures) ∙ c .before .before .before .before .value .given .1,
+      sym (c .before .before .spot-on .ensures) ∙ c .enum-told4 .given .1,
+    )
 
 spot-on-requires-2 : tie.Need-spot-on-requires-2
 spot-on-requires-2 c κs = search needs
@@ -68,11 +80,25 @@ enum-told-5 c = search needs
 
 returns-5 : tie.Need-returns-5
 unfolding columnOn
-returns-5 c = rw (sym (c .before .before .before .before .before .before .before .before .before .before .before .before .before .before .before .before .before .before .property-on .ensures) ∙ c .before .before .before .before .before .before .before .before .before .before .before .before .before .before .before .before .property .given .1, sym (c .before .before .before .before .before .before .before .before .before .before .before .before .before .before .number-on .ensures) ∙ c .before .before .before .before .before .before .before .before .before .before .before .before .vtype .given .1, sym (c .before .before .before .before .before .before .before .before .before .before .value-on .ensures) ∙ c .before .before .before .before .before .before .before .before .value .given .1, sym (c .before .before .before .before .before .before .spot-on .ensures) ∙ c .before .before .before .before .status .given .1, sym (c .before .before .spot-on2 .ensures) ∙ c .enum-told5 .given .1)
+returns-5 c =
+    rw (
+      sym (c .before .before .before .before .before .before .before .before .before .before .before .before .before .before .before .before .before .before .property-on .ensures) ∙ c .before .before .before .before .before .before .before .before .before .before .before .before .before .before .before .before .property .given .1,
+      sym (c .before .before .before .before .before .before .before .before .before .before .before .before .before .before .number-on .ensures) ∙ c .before .before .before .before .before .before .before .before .before .before .before .before .vtype .given .1,
+      sym (c .before .before .before .before .before .before .before .before .before .before .value-on .ensures) ∙ c .before .before .before .before .before .before .before .before .value .given .1,
+      sym (c .before .before .before .before .before .before .spot-on .ensures) ∙ c .before .before .before .before .status .given .1,
+      sym (c .before .before .spot-on2 .ensures) ∙ c .enum-told5 .given .1,
+    )
 
 returns-6 : tie.Need-returns-6
 unfolding columnOn
-returns-6 c = rw (sym (c .before .before .before .before .before .before .before .before .before .before .before .before .before .before .before .before .before .before .before .property-on .ensures) ∙ c .before .before .before .before .before .before .before .before .before .before .before .before .before .before .before .before .before .property .given .1, sym (c .before .before .before .before .before .before .before .before .before .before .before .before .before .before .before .number-on .ensures) ∙ c .before .before .before .before .before .before .before .before .before .before .before .before .before .vtype .given .1, sym (c .before .before .before .before .before .before .before .before .before .before .before .value-on .ensures) ∙ c .before .before .before .before .before .before .before .before .before .value .given .1, sym (c .before .before .before .before .before .before .before .spot-on .ensures) ∙ c .before .before .before .before .before .status .given .1, sym (c .before .before .before .spot-on2 .ensures) ∙ c .before .length .given .1)
+returns-6 c =
+    rw (
+      sym (c .before .before .before .before .before .before .before .before .before .before .before .before .before .before .before .before .before .before .before .property-on .ensures) ∙ c .before .before .before .before .before .before .before .before .before .before .before .before .before .before .before .before .before .property .given .1,
+      sym (c .before .before .before .before .before .before .before .before .before .before .before .before .before .before .before .number-on .ensures) ∙ c .before .before .before .before .before .before .before .before .before .before .before .before .before .vtype .given .1,
+      sym (c .before .before .before .before .before .before .before .before .before .before .before .value-on .ensures) ∙ c .before .before .before .before .before .before .before .before .before .value .given .1,
+      sym (c .before .before .before .before .before .before .before .spot-on .ensures) ∙ c .before .before .before .before .before .status .given .1,
+      sym (c .before .before .before .spot-on2 .ensures) ∙ c .before .length .given .1,
+    )
 
 pub column-on-spec : {M : Type 1} → statement M
 column-on-spec =

@@ -3,10 +3,9 @@ use borrow.Author.Needs.{needs}
 use Rattle.bindings.proofs.fields.flag_on.Statement.{statement}
 use Rattle.bindings.proofs.fields.flag_on.Tie as tie
 use native.Mathlib.Omega.{arith}
-use Prim.Native.Nat.{_+_}
 use mathlib.Core.Path.{sym, _∙_}
 use lib.ListN.{length}
-use borrow.Author.Tests.{not-true, not-false, leb-true}
+use borrow.Author.Tests.{not-true, not-false}
 use Rattle.bindings.proofs.Wire.{room-there, flag-past, flag-over, flag-there}
 
 room-requires : tie.Need-room-requires

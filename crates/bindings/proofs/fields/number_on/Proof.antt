@@ -6,7 +6,7 @@ use native.Mathlib.Omega.{arith}
 use Prim.Native.Nat.{ℕ, _+_}
 use mathlib.Core.Path.{_≡_, sym, ap, _∙_}
 use lib.ListN.{length}
-use borrow.Author.Tests.{not-true, not-false, leb-true}
+use borrow.Author.Tests.{not-true, not-false}
 use Rattle.words.specs.Word.{numberAt}
 use Rattle.bindings.proofs.Wire.{room-there, number-past, number-there}
 use Rattle.bindings.specs.declared.NumberRead.{NumberRead}

@@ -7,7 +7,7 @@ use native.Mathlib.Nat.{mod-lt}
 use Prim.Native.Nat.{ℕ, _+_, _-_, _≤_, _<_}
 use mathlib.Core.Path.{_≡_, sym, _∙_}
 use lib.ListN.{length, getD}
-use borrow.Author.Tests.{not-true, not-false, leb-true}
+use borrow.Author.Tests.{not-true, not-false}
 use borrow.Author.Count.{below-more}
 use Rattle.bindings.specs.Wire.{padCount}
 use Rattle.bindings.proofs.Wire.{room-there, padded-past, padded-broken, padded-passed}

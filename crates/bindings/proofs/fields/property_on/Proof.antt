@@ -3,10 +3,9 @@ use borrow.Author.Needs.{needs}
 use Rattle.bindings.proofs.fields.property_on.Statement.{statement}
 use Rattle.bindings.proofs.fields.property_on.Tie as tie
 use native.Mathlib.Omega.{arith}
-use Prim.Native.Nat.{_+_}
 use mathlib.Core.Path.{sym, _∙_}
 use lib.ListN.{length}
-use borrow.Author.Tests.{not-true, not-false, leb-true, eq-eqb, ne-eqb}
+use borrow.Author.Tests.{not-true, not-false, eq-eqb, ne-eqb}
 use Rattle.bindings.specs.Wire.{propertyOn}
 use Rattle.bindings.proofs.Wire.{room-there}
 
@@ -28,14 +27,25 @@ word-requires c κs = let a = c .before .before .before .args in omega (arith, r
 
 returns-2 : tie.Need-returns-2
 unfolding propertyOn
-returns-2 c = rw (sym (c .before .before .before .room .ensures) ∙ not-false _ (c .before .before .if1 .left), ← c .before .word .ensures, ne-eqb _ _ (c .if2 .taken))
+returns-2 c =
+    rw (
+      sym (c .before .before .before .room .ensures) ∙ not-false _ (c .before .before .if1 .left),
+      ← c .before .word .ensures,
+      ne-eqb _ _ (c .if2 .taken),
+    )
 
 set-ours-requires : tie.Need-set-ours-requires
 set-ours-requires c κs = let a = c .before .before .before .before .before .args in omega (arith, room-there (a .at) 24 (length (a .m .now)) (c .before .before .before .room .ensures) (c .before .before .if1 .left))
 
 returns-3 : tie.Need-returns-3
 unfolding propertyOn
-returns-3 c = rw (sym (c .before .before .before .before .before .room .ensures) ∙ not-false _ (c .before .before .before .before .if1 .left), ← c .before .before .before .word .ensures, eq-eqb _ _ (c .before .before .if2 .left), sym (c .before .set-ours .ensures) ∙ not-true _ (c .if3 .taken))
+returns-3 c =
+    rw (
+      sym (c .before .before .before .before .before .room .ensures) ∙ not-false _ (c .before .before .before .before .if1 .left),
+      ← c .before .before .before .word .ensures,
+      eq-eqb _ _ (c .before .before .if2 .left),
+      sym (c .before .set-ours .ensures) ∙ not-true _ (c .if3 .taken),
+    )
 
 add-word-2 : tie.Need-add-word-2
 add-word-2 c = let a = c .before .before .before .before .before .before .before .args in omega (arith, room-there (a .at) 24 (length (a .m .now)) (c .before .before .before .before .before .room .ensures) (c .before .before .before .before .if1 .left))
@@ -45,7 +55,14 @@ word-requires-2 c κs = let a = c .before .before .before .before .before .befor
 
 returns-4 : tie.Need-returns-4
 unfolding propertyOn
-returns-4 c = rw (sym (c .before .before .before .before .before .before .room .ensures) ∙ not-false _ (c .before .before .before .before .before .if1 .left), ← c .before .before .before .before .word .ensures, eq-eqb _ _ (c .before .before .before .if2 .left), sym (c .before .before .set-ours .ensures) ∙ not-false _ (c .before .if3 .left), ← c .word2 .ensures)
+returns-4 c =
+    rw (
+      sym (c .before .before .before .before .before .before .room .ensures) ∙ not-false _ (c .before .before .before .before .before .if1 .left),
+      ← c .before .before .before .before .word .ensures,
+      eq-eqb _ _ (c .before .before .before .if2 .left),
+      sym (c .before .before .set-ours .ensures) ∙ not-false _ (c .before .if3 .left),
+      ← c .word2 .ensures,
+    )
 
 pub property-on-spec : {M : Type 1} → statement M
 property-on-spec =

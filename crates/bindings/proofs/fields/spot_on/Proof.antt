@@ -34,7 +34,12 @@ enum-told-2 c = search needs
 
 returns-3 : tie.Need-returns-3
 unfolding spotOn
-returns-3 c = rw (sym (c .before .before .before .before .before .before .before .flag-on .ensures) ∙ c .before .before .before .before .before .used .given .1, ne-eqb _ _ (c .before .before .before .if1 .left), sym (c .before .before .padded-on .ensures) ∙ c .enum-told2 .given .1)
+returns-3 c =
+    rw (
+      sym (c .before .before .before .before .before .before .before .flag-on .ensures) ∙ c .before .before .before .before .before .used .given .1,
+      ne-eqb _ _ (c .before .before .before .if1 .left),
+      sym (c .before .before .padded-on .ensures) ∙ c .enum-told2 .given .1,
+    )
 
 number-on-requires : tie.Need-number-on-requires
 number-on-requires c κs = search needs
@@ -47,11 +52,23 @@ enum-told-3 c = search needs
 
 returns-4 : tie.Need-returns-4
 unfolding spotOn
-returns-4 c = rw (sym (c .before .before .before .before .before .before .before .before .before .before .before .flag-on .ensures) ∙ c .before .before .before .before .before .before .before .before .before .used .given .1, ne-eqb _ _ (c .before .before .before .before .before .before .before .if1 .left), sym (c .before .before .before .before .before .before .padded-on .ensures) ∙ c .before .before .before .before .place .given .1, sym (c .before .before .number-on .ensures) ∙ c .enum-told3 .given .1)
+returns-4 c =
+    rw (
+      sym (c .before .before .before .before .before .before .before .before .before .before .before .flag-on .ensures) ∙ c .before .before .before .before .before .before .before .before .before .used .given .1,
+      ne-eqb _ _ (c .before .before .before .before .before .before .before .if1 .left),
+      sym (c .before .before .before .before .before .before .padded-on .ensures) ∙ c .before .before .before .before .place .given .1,
+      sym (c .before .before .number-on .ensures) ∙ c .enum-told3 .given .1,
+    )
 
 returns-5 : tie.Need-returns-5
 unfolding spotOn
-returns-5 c = rw (sym (c .before .before .before .before .before .before .before .before .before .before .before .before .flag-on .ensures) ∙ c .before .before .before .before .before .before .before .before .before .before .used .given .1, ne-eqb _ _ (c .before .before .before .before .before .before .before .before .if1 .left), sym (c .before .before .before .before .before .before .before .padded-on .ensures) ∙ c .before .before .before .before .before .place .given .1, sym (c .before .before .before .number-on .ensures) ∙ c .before .offset .given .1)
+returns-5 c =
+    rw (
+      sym (c .before .before .before .before .before .before .before .before .before .before .before .before .flag-on .ensures) ∙ c .before .before .before .before .before .before .before .before .before .before .used .given .1,
+      ne-eqb _ _ (c .before .before .before .before .before .before .before .before .if1 .left),
+      sym (c .before .before .before .before .before .before .before .padded-on .ensures) ∙ c .before .before .before .before .before .place .given .1,
+      sym (c .before .before .before .number-on .ensures) ∙ c .before .offset .given .1,
+    )
 
 pub spot-on-spec : {M : Type 1} → statement M
 spot-on-spec =

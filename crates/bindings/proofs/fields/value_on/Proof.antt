@@ -34,11 +34,21 @@ enum-told-2 c = search needs
 
 returns-3 : tie.Need-returns-3
 unfolding valueOn
-returns-3 c = rw (sym (c .before .before .before .before .before .before .before .spot-on .ensures) ∙ c .before .before .before .before .before .spot .given .1, ne-eqb _ _ (c .before .before .before .if1 .left), sym (c .before .before .number-on .ensures) ∙ c .enum-told2 .given .1)
+returns-3 c =
+    rw (
+      sym (c .before .before .before .before .before .before .before .spot-on .ensures) ∙ c .before .before .before .before .before .spot .given .1,
+      ne-eqb _ _ (c .before .before .before .if1 .left),
+      sym (c .before .before .number-on .ensures) ∙ c .enum-told2 .given .1,
+    )
 
 returns-4 : tie.Need-returns-4
 unfolding valueOn
-returns-4 c = rw (sym (c .before .before .before .before .before .before .before .before .spot-on .ensures) ∙ c .before .before .before .before .before .before .spot .given .1, ne-eqb _ _ (c .before .before .before .before .if1 .left), sym (c .before .before .before .number-on .ensures) ∙ c .before .size .given .1)
+returns-4 c =
+    rw (
+      sym (c .before .before .before .before .before .before .before .before .spot-on .ensures) ∙ c .before .before .before .before .before .before .spot .given .1,
+      ne-eqb _ _ (c .before .before .before .before .if1 .left),
+      sym (c .before .before .before .number-on .ensures) ∙ c .before .size .given .1,
+    )
 
 pub value-on-spec : {M : Type 1} → statement M
 value-on-spec =

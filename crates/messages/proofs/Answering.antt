@@ -1,0 +1,87 @@
+-- The ways that a message on its seat can go: refused, or done. Assumes nothing.
+use mathlib.Core.Path.{_≡_, refl, sym, ap, ap₂, subst, _∙_}
+use mathlib.Core.Bool.{Bool, true, false, not}
+use mathlib.Core.List.{List, [], _∷_, _++_, append-assoc}
+use mathlib.Core.Option.{Option, none, some}
+use Prim.Native.Nat.{ℕ, _+_, _≤_, _<_}
+use native.Mathlib.Nat.{zero-add}
+use native.Mathlib.Omega.{arith}
+use borrow.Author.Tests.{eq-eqb, ne-eqb}
+use lib.Dec.{eqb}
+use lib.ListN.{length, getD, take, drop}
+use Rattle.words.specs.Below.{pick}
+use Rattle.words.specs.Word.{le}
+use Rattle.words.proofs.Below.{by-test}
+use Rattle.spans.specs.Laid.{lay, fourWords}
+use Rattle.sessions.specs.Layout.{seatSize, connectedAt}
+use Rattle.sessions.specs.Seat.{Seat, seatBlock, seatIn, seatOf}
+use Rattle.sessions.specs.Well.{seatWell}
+use Rattle.sessions.specs.Fits.{CursorOk, SeatOk}
+use Rattle.sessions.proofs.Seats.{seat-back}
+use Rattle.messages.specs.Refusal.{firstCause, statusOf}
+use Rattle.messages.specs.Message.{SeatOutcome, msgOf, kindOf, gateCauses, bodyCauses, bodyOf, seatCauses, refusedOn, doneOn, doneBy, seatMessage}
+use Rattle.messages.specs.Answers.{Given, Admitted, Answers}
+use Rattle.messages.specs.declared.Answered.{Answered}
+use Rattle.messages.proofs.First.{Numbered, first-stop, first-go}
+
+-- bytes laid over the start of a list
+pub lay-front : (t b : List ℕ) → lay t 0 b ≡ b ++ drop (length b) t
+unfolding lay
+lay-front t b = ap (λ (n : ℕ). b ++ drop n t) (zero-add (length b))
+
+gate-numbered : (held : Option Seat) (m : List ℕ) → Numbered (gateCauses held m)
+gate-numbered none m = ((λ e. omega arith), ((λ e. omega arith), tt))
+gate-numbered (some s) m = ((λ e. omega arith), ((λ e. omega arith), ((λ e. omega arith), tt)))
+
+-- a block that passes is that of the seat that it holds
+pub block-is : (b m reply : List ℕ) → Given b m reply → b ≡ seatBlock (seatOf b)
+block-is b m reply g = seat-back b (g .size) (g .well) .0
+
+-- a refusal: the header, and nothing else
+pub refused-answers : (b m entry exit : List ℕ) (msg n : ℕ) (r : Answered) → b ≡ seatBlock (seatOf b) → msg ≡ msgOf m
+    → seatMessage (seatOf b) m ≡ refusedOn n (seatOf b) m → r ≡ record { refusal = n; count = 16 } → exit ≡ lay entry 0 (fourWords msg (statusOf n) 0 0)
+    → Answers (seatMessage (seatOf b) m) r b entry exit
+unfolding le
+refused-answers b m entry exit msg n r e h o a w =
+    rw (o, a)
+    record
+    { refused = refl
+    ; counted = refl
+    ; kept = e
+    ; written = w ∙ lay-front entry (fourWords msg (statusOf n) 0 0) ∙ ap (λ (k : ℕ). fourWords k (statusOf n) 0 0 ++ drop 16 entry) h
+    }
+
+-- refusals 6 to 8
+pub gate-refused : (b m : List ℕ) (n : ℕ) → firstCause (gateCauses (seatOf b) m) ≡ n → (n ≡ 0 → ⊥) → seatMessage (seatOf b) m ≡ refusedOn n (seatOf b) m
+unfolding seatMessage
+gate-refused b m n e z =
+    let f : firstCause (seatCauses (seatOf b) m) ≡ n = first-stop (gateCauses (seatOf b) m) (bodyOf (seatOf b) m) n e z in
+    rw (f, ne-eqb n 0 z)
+
+-- a message that was admitted
+module _ (b m reply : List ℕ) (msg kind : ℕ) (a : Admitted b m reply msg kind) where
+  pub held : seatOf b ≡ some (seatIn b)
+  held = rw (ne-eqb (getD b connectedAt 0) 0 (a .connected))
+
+  pub seat-is : b ≡ seatBlock (some (seatIn b))
+  seat-is = block-is b m reply (a .given) ∙ ap seatBlock held
+
+  pub seat-fits : CursorOk (seatIn b .first) × CursorOk (seatIn b .second)
+  seat-fits = subst SeatOk held (seat-back b (a .given .size) (a .given .well) .1)
+
+  causes-are : firstCause (seatCauses (seatOf b) m) ≡ firstCause (bodyCauses kind (seatIn b) m)
+  causes-are =
+      first-go (gateCauses (seatOf b) m) (bodyOf (seatOf b) m) (gate-numbered (seatOf b) m) (a .gated)
+      ∙ ap (λ (o : Option Seat). firstCause (bodyOf o m)) held
+      ∙ ap (λ (k : ℕ). firstCause (bodyCauses k (seatIn b) m)) (a .kind-is)
+
+  pub body-refused : (n : ℕ) → firstCause (bodyCauses kind (seatIn b) m) ≡ n → (n ≡ 0 → ⊥) → seatMessage (seatOf b) m ≡ refusedOn n (seatOf b) m
+  unfolding seatMessage
+  body-refused n e z = let f : firstCause (seatCauses (seatOf b) m) ≡ n = causes-are ∙ e in rw (f, ne-eqb n 0 z)
+
+  pub body-done : firstCause (bodyCauses kind (seatIn b) m) ≡ 0 → seatMessage (seatOf b) m ≡ doneOn kind (seatIn b) m
+  unfolding seatMessage
+  body-done e =
+      let f : firstCause (seatCauses (seatOf b) m) ≡ 0 = causes-are ∙ e in
+      rw f
+      (ap (λ (o : Option Seat). doneBy o m) held ∙ ap (λ (k : ℕ). doneOn k (seatIn b) m) (a .kind-is))
