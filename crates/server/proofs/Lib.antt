@@ -1,3 +1,4 @@
 pub mod Causes
 pub mod Seating
 pub mod Connecting
+pub mod Messaging

@@ -1,10 +1,13 @@
 // The server: connecting, opening a query, and messages, over a lent table of sessions and a lent catalogue.
 ghost use mathlib.Core.Path.{_≡_};
 ghost use mathlib.Core.List.{[]};
+ghost use lib.ListN.{length};
 ghost use Prim.Native.Nat.{_+_, _≤_, _<_};
 ghost use Rattle.messages.specs.Refusal.{firstCause};
-ghost use Rattle.server.specs.Step.{sourcesOf, judging, connectStep, Keeps};
+ghost use Rattle.server.specs.Step.{sourcesOf, judging, connectStep, messageStep, Keeps};
 ghost use Rattle.server.specs.Judgement.{Judgement};
+
+use messages::Answered;
 
 // A seat, a cursor's handle and a row's number: three types, so that none can stand for another.
 pub struct Seat(pub u32);
@@ -59,4 +62,38 @@ pub fn connect(table: &mut [u32], catalogue: &[u8], seat: Seat, version: u32) ->
     }
     sessions::connect(&mut table[at..end], version);
     0
+}
+
+// A message from a seat.
+pub fn message(table: &mut [u32], catalogue: &[u8], seat: Seat, message: &[u8], reply: &mut [u8]) -> Answered
+    ensures { λ r. ⌜ Keeps (messageStep (sourcesOf (now (catalogue .entry))) (now (table .entry)) (seat .0) (now (message .entry)) (length (now (reply .entry)))) (r .refusal) 0 (r .count) (now (table .exit)) (now (reply .entry)) (now (reply .exit)) ⌝ }
+{
+    let k = seat.0;
+    let mut places = [0u32; 1024];
+    let judged = judge(table, catalogue, k, &mut places);
+    let refusal = judged.refusal;
+    if refusal != 0 {
+        return Answered { refusal, count: 0 };
+    }
+    if reply.len() < 16384 {
+        return Answered {
+            refusal: 4,
+            count: 0,
+        };
+    }
+    if message.len() < 16 {
+        return Answered {
+            refusal: 5,
+            count: 0,
+        };
+    }
+    if 16384 < message.len() {
+        return Answered {
+            refusal: 5,
+            count: 0,
+        };
+    }
+    let at = SEAT_SIZE * (k as usize);
+    let end = at + SEAT_SIZE;
+    messages::answer(&mut table[at..end], message, reply)
 }

@@ -1,0 +1,299 @@
+// The leaves of a restriction tree: reading one from bytes, and whether a row satisfies it.
+ghost use mathlib.Core.Path.{_≡_};
+ghost use Prim.Native.Nat.{_+_, _*_, _^_, _≤_, _<_};
+ghost use lib.Dec.{leb};
+ghost use lib.ListN.{length};
+ghost use Rattle.words.specs.Below.{both};
+ghost use Rattle.catalogue.specs.Places.{textOf, rowOf};
+ghost use Rattle.leaves.specs.Padding.{padding, zeros};
+ghost use Rattle.leaves.specs.Property.{ofNumbers, ofTexts, isSet, propertySize, propertyAt};
+ghost use Rattle.leaves.specs.Holds.{relationHolds, phraseHolds, leafHolds};
+ghost use Rattle.leaves.specs.Parts.{phraseAt, contentAt, relationAt, leafAt, leafOf, phraseOf, PartsInside};
+ghost use Rattle.leaves.specs.Inside.{TextInside, RowInside};
+use catalogue::Fields;
+use catalogue::Text;
+
+const PHRASE_MOST: u32 = 64;
+
+// The kinds of a leaf.
+const CONTENT: u32 = 4;
+
+const PROPERTY: u32 = 5;
+
+// Properties: the first three are numbers, the others texts.
+const KEY: u32 = 2;
+
+const LANGUAGE: u32 = 3;
+
+const DEFAULT: u32 = 4;
+
+const LABEL: u32 = 5;
+
+const NOTE: u32 = 6;
+
+// The ulKind of a numbered property.
+const NUMBERED: u32 = 1;
+
+// The type of a number in a property leaf, and the bytes that such a leaf takes.
+const NUMBER_TYPE: u32 = 0x0013;
+
+const RELATION_SIZE: usize = 44;
+
+// A content leaf: its property, where its phrase's units begin and how many they are, and its method.
+pub struct Content {
+    pub property: u32,
+    pub start: usize,
+    pub count: usize,
+    pub method: u32,
+}
+
+// A property leaf.
+pub struct Relation {
+    pub relop: u32,
+    pub property: u32,
+    pub value: u64,
+}
+
+// A leaf of either kind.
+pub enum Parts {
+    OfContent(Content),
+    OfRelation(Relation),
+}
+
+// A phrase on the wire: where its units begin, how many they are, and where the locale begins.
+pub enum PhraseAt {
+    PhraseTo(usize, usize, usize),
+    NoPhrase,
+}
+
+// A leaf, with the bytes that it takes.
+pub enum LeafAt {
+    LeafTo(Parts, usize),
+    NoLeaf,
+}
+
+// How many bytes stand between a place and the next multiple of four.
+pub fn padding(place: usize) -> usize
+    ensures { λ r. ⌜ r ≡ padding place ⌝ }
+{
+    (4 - place % 4) % 4
+}
+
+// Whether n bytes from an index on are zero.
+pub fn zeros(s: &[u8], at: usize, n: usize) -> bool
+    requires { ⌜ at + n ≤ length (now s) ⌝ }
+    ensures { λ r. ⌜ r ≡ zeros (now (s .entry)) at n ⌝ }
+{
+    let mut i = 0;
+    while i < n {
+        if s[at + i] != 0 {
+            return false;
+        }
+        i += 1;
+    }
+    true
+}
+
+// Whether the set identifier at an index is ours.
+fn is_set(s: &[u8], at: usize) -> bool
+    requires { ⌜ at + 16 ≤ length (now s) ⌝ }
+    ensures { λ r. ⌜ r ≡ isSet (now (s .entry)) at ⌝ }
+{
+    let mut i = 0;
+    while i < 16 {
+        if s[at + i] as usize != 0x10 + i {
+            return false;
+        }
+        i += 1;
+    }
+    true
+}
+
+// The number of the property that stands at an index, or 0 where it is not one of ours.
+fn property(s: &[u8], at: usize) -> u32
+    requires { ⌜ at + propertySize ≤ length (now s) ⌝ }
+    ensures { λ r. ⌜ r ≡ propertyAt (now (s .entry)) at ⌝ }
+{
+    if both(is_set(s, at), words::word(s, at + 16) == NUMBERED) {
+        return words::word(s, at + 20);
+    }
+    0
+}
+
+// Both tests hold. Neither is left out for the other's sake.
+pub fn both(a: bool, b: bool) -> bool
+    ensures { λ r. ⌜ r ≡ both a b ⌝ }
+{
+    if a {
+        return b;
+    }
+    false
+}
+
+// Whether a number lies from one to another.
+fn within(low: u32, x: u32, high: u32) -> bool
+    ensures { λ r. ⌜ r ≡ both (leb low x) (leb x high) ⌝ }
+{
+    both(low <= x, x <= high)
+}
+
+// The phrase that stands at an index, with the padding on both sides of it.
+fn read_phrase(s: &[u8], place: usize, at: usize) -> PhraseAt
+    requires { ⌜ (place < 2 ^ 62) × (at ≤ 2 ^ 61) ⌝ }
+    ensures { λ r. ⌜ r ≡ phraseAt (now (s .entry)) place at ⌝ }
+{
+    let before = padding(place + at);
+    let size = at + before;
+    let start = size + 4;
+    if s.len() < start {
+        return PhraseAt::NoPhrase;
+    }
+    let units = words::word(s, size);
+    let count = units as usize;
+    let end = start + 2 * count;
+    let after = padding(place + end);
+    let next = end + after;
+    if s.len() < next {
+        return PhraseAt::NoPhrase;
+    }
+    let clear = both(zeros(s, at, before), zeros(s, end, after));
+    if both(within(1, units, PHRASE_MOST), clear) {
+        return PhraseAt::PhraseTo(start, count, next);
+    }
+    PhraseAt::NoPhrase
+}
+
+// A content leaf.
+fn read_content(s: &[u8], place: usize) -> LeafAt
+    requires { ⌜ place < 2 ^ 62 ⌝ }
+    ensures { λ r. ⌜ r ≡ contentAt (now (s .entry)) place ⌝ }
+{
+    let PhraseAt::PhraseTo(start, count, locale) = read_phrase(s, place, 32) else {
+        return LeafAt::NoLeaf;
+    };
+    let used = locale + 8;
+    if s.len() < used {
+        return LeafAt::NoLeaf;
+    }
+    let property = property(s, 8);
+    let method = words::word(s, locale + 4);
+    if both(within(LABEL, property, NOTE), method <= 1) {
+        return LeafAt::LeafTo(
+            Parts::OfContent(Content {
+                property,
+                start,
+                count,
+                method,
+            }),
+            used,
+        );
+    }
+    LeafAt::NoLeaf
+}
+
+// A property leaf.
+fn read_relation(s: &[u8]) -> LeafAt
+    ensures { λ r. ⌜ r ≡ relationAt (now (s .entry)) ⌝ }
+{
+    if s.len() < RELATION_SIZE {
+        return LeafAt::NoLeaf;
+    }
+    let relop = words::word(s, 8);
+    let property = property(s, 12);
+    let typed = both(words::half(s, 36) == NUMBER_TYPE, words::half(s, 38) == 0);
+    let value = words::word(s, 40) as u64;
+    if both(both(relop <= 5, within(KEY, property, DEFAULT)), typed) {
+        return LeafAt::LeafTo(
+            Parts::OfRelation(Relation {
+                relop,
+                property,
+                value,
+            }),
+            RELATION_SIZE,
+        );
+    }
+    LeafAt::NoLeaf
+}
+
+// The leaf of a kind.
+pub fn read_leaf(kind: u32, s: &[u8], place: usize) -> LeafAt
+    requires { ⌜ place < 2 ^ 62 ⌝ }
+    ensures { λ r. ⌜ r ≡ leafAt kind (now (s .entry)) place ⌝ }
+{
+    if kind == CONTENT {
+        return read_content(s, place);
+    }
+    if kind == PROPERTY {
+        return read_relation(s);
+    }
+    LeafAt::NoLeaf
+}
+
+// Whether the row's value has the relation to the tree's.
+fn relation_holds(relop: u32, mine: u64, yours: u64) -> bool
+    ensures { λ r. ⌜ r ≡ relationHolds relop mine yours ⌝ }
+{
+    match relop {
+        0 => mine < yours,
+        1 => mine <= yours,
+        2 => yours < mine,
+        3 => yours <= mine,
+        4 => mine == yours,
+        _ => mine != yours,
+    }
+}
+
+// The row's number that a property names.
+fn number_of(property: u32, row: Fields) -> u64
+    ensures { λ r. ⌜ r ≡ ofNumbers property (row .key) (row .language) (row .default) ⌝ }
+{
+    match property {
+        KEY => row.key,
+        LANGUAGE => row.language,
+        _ => row.default,
+    }
+}
+
+// The row's text that a property names.
+fn text_of(property: u32, row: Fields) -> Text
+    ensures { λ r. ⌜ r ≡ ofTexts property (row .label) (row .note) ⌝ }
+{
+    if property == LABEL {
+        return row.label;
+    }
+    row.note
+}
+
+// Whether a content leaf's phrase occurs in a text.
+fn phrase_holds(s: &[u8], leaf: Content, catalogue: &[u8], text: Text) -> bool
+    requires { ⌜ (leaf .start + 2 * leaf .count ≤ length (now s)) × TextInside (now catalogue) text ⌝ }
+    ensures { λ r. ⌜ r ≡ phraseHolds (leaf .method) (phraseOf (now (s .entry)) leaf) (textOf (now (catalogue .entry)) text) ⌝ }
+{
+    if text.size == 0 {
+        return false;
+    }
+    let start = leaf.start;
+    let end = start + 2 * leaf.count;
+    phrase::occurs(
+        catalogue::units(catalogue, text),
+        &s[start..end],
+        leaf.method,
+    )
+}
+
+// Whether a leaf holds for a row.
+pub fn leaf_holds(s: &[u8], leaf: Parts, catalogue: &[u8], row: Fields) -> bool
+    requires { ⌜ PartsInside (now s) leaf × RowInside (now catalogue) row ⌝ }
+    ensures { λ r. ⌜ r ≡ leafHolds (rowOf (now (catalogue .entry)) row) (leafOf (now (s .entry)) leaf) ⌝ }
+{
+    match leaf {
+        Parts::OfContent(content) => {
+            let text = text_of(content.property, row);
+            phrase_holds(s, content, catalogue, text)
+        }
+        Parts::OfRelation(relation) => {
+            let mine = number_of(relation.property, row);
+            relation_holds(relation.relop, mine, relation.value)
+        }
+    }
+}
