@@ -29,7 +29,7 @@ pub lay-front : (t b : List ℕ) → lay t 0 b ≡ b ++ drop (length b) t
 unfolding lay
 lay-front t b = ap (λ (n : ℕ). b ++ drop n t) (zero-add (length b))
 
-gate-numbered : (held : Option Seat) (m : List ℕ) → Numbered (gateCauses held m)
+pub gate-numbered : (held : Option Seat) (m : List ℕ) → Numbered (gateCauses held m)
 gate-numbered none m = ((λ e. omega arith), ((λ e. omega arith), tt))
 gate-numbered (some s) m = ((λ e. omega arith), ((λ e. omega arith), ((λ e. omega arith), tt)))
 

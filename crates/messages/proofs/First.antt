@@ -28,3 +28,12 @@ first-go (c ∷ a) b n e =
     by-test (c .1)
     (λ q. absurd (n .0 (rw q at e)))
     (λ q. rw q (first-go a b (n .1) (rw q at e)))
+
+-- where none of a joined list applies, none of either does
+pub first-both : (a b : List (ℕ × Bool)) → Numbered a → firstCause (a ++ b) ≡ 0 → (firstCause a ≡ 0) × (firstCause b ≡ 0)
+unfolding firstCause
+first-both [] b n e = (refl, e)
+first-both (c ∷ a) b n e =
+    by-test (c .1)
+    (λ q. absurd (n .0 (rw q at e)))
+    (λ q. rw q (first-both a b (n .1) (rw q at e)))

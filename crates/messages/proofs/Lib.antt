@@ -4,3 +4,5 @@ pub mod Handles
 pub mod Answering
 pub mod Bodies
 pub mod Binding
+pub mod Tidy
+pub mod Keeping

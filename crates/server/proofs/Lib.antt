@@ -2,3 +2,5 @@ pub mod Causes
 pub mod Seating
 pub mod Connecting
 pub mod Messaging
+pub mod Passing
+pub mod Once

@@ -17,7 +17,7 @@ use Rattle.sessions.specs.Well.{seatWell, tableWell}
 lt-or-gt : (a b : ℕ) → (a ≡ b → ⊥) → (a < b) ⊎ (b < a)
 lt-or-gt a b d = by-test (ltb a b) (λ q. inl (ltb-true a b q)) (λ q. inr (omega (arith, ltb-false a b q)))
 
-same-or-not : (a b : ℕ) → (a ≡ b) ⊎ (a ≡ b → ⊥)
+pub same-or-not : (a b : ℕ) → (a ≡ b) ⊎ (a ≡ b → ⊥)
 same-or-not a b = by-test (eqb a b) (λ q. inl (eqb-true a b q)) (λ q. inr (eqb-false a b q))
 
 pub part-length : (t : List ℕ) (at n : ℕ) → at + n ≤ length t → length (part t at n) ≡ n
