@@ -44,11 +44,11 @@ pub refused-answers : (b m entry exit : List ℕ) (msg n : ℕ) (r : Answered) �
 unfolding le
 refused-answers b m entry exit msg n r e h o a w =
     rw (o, a)
-    record
-    { refused = refl
-    ; counted = refl
-    ; kept = e
-    ; written = w ∙ lay-front entry (fourWords msg (statusOf n) 0 0) ∙ ap (λ (k : ℕ). fourWords k (statusOf n) 0 0 ++ drop 16 entry) h
+    record {
+      refused = refl;
+      counted = refl;
+      kept = e;
+      written = w ∙ lay-front entry (fourWords msg (statusOf n) 0 0) ∙ ap (λ (k : ℕ). fourWords k (statusOf n) 0 0 ++ drop 16 entry) h;
     }
 
 -- refusals 6 to 8

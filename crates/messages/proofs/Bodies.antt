@@ -47,12 +47,12 @@ lay-after t a b l =
     ap (λ (x : List ℕ). lay x 16 b) (lay-front t a ∙ ap (λ (n : ℕ). a ++ drop n t) l)
     ∙ ap₂ (λ (x y : List ℕ). x ++ (b ++ y)) (take-at a (drop 16 t) 16 l) rest
     ∙ sym (append-assoc a b (drop (16 + length b) t))
-    where
-      rest : drop (16 + length b) (a ++ drop 16 t) ≡ drop (16 + length b) t
-      rest =
-          ap (λ (n : ℕ). drop (n + length b) (a ++ drop 16 t)) (sym l)
-          ∙ drop-append-add a (drop 16 t) (length b)
-          ∙ drop-drop (length b) 16 t
+  where
+    rest : drop (16 + length b) (a ++ drop 16 t) ≡ drop (16 + length b) t
+    rest =
+        ap (λ (n : ℕ). drop (n + length b) (a ++ drop 16 t)) (sym l)
+        ∙ drop-append-add a (drop 16 t) (length b)
+        ∙ drop-drop (length b) 16 t
 
 -- disconnect
 module _ (b m reply : List ℕ) (msg : ℕ) (a : Admitted b m reply msg 0) where
@@ -91,15 +91,15 @@ module _ (b m reply : List ℕ) (msg : ℕ) (a : Admitted b m reply msg 1) where
       let d : seatMessage (seatOf b) m ≡ doneOn 1 (seatIn b) m = body-done b m reply msg 1 a (rw (eq-eqb (length m) 20 e, o)) in
       let k : block ≡ seatBlock (some (freed (seatIn b) m)) = p ∙ freed-block in
       let n : left ≡ stillOpen (freed (seatIn b) m)
-          = l ∙ ap (λ (x : List ℕ). stillOpen (seatIn x)) k
-          ∙ ap stillOpen (seat-read (freed (seatIn b) m) (with-fits (seatIn b) (handleOf m) none (seat-fits b m reply msg 1 a .0) (seat-fits b m reply msg 1 a .1) tt)) in
+      = l ∙ ap (λ (x : List ℕ). stillOpen (seatIn x)) k
+      ∙ ap stillOpen (seat-read (freed (seatIn b) m) (with-fits (seatIn b) (handleOf m) none (seat-fits b m reply msg 1 a .0) (seat-fits b m reply msg 1 a .1) tt)) in
       rw d
-      record
-      { refused = refl
-      ; counted = refl
-      ; kept = k
-      ; written =
-          w
-          ∙ lay-after reply (fourWords msg 0 0 0) (le 4 left) refl
-          ∙ ap₂ (λ (x y : ℕ). (fourWords x 0 0 0 ++ le 4 y) ++ drop 20 reply) (a .msg-is) n
+      record {
+        refused = refl;
+        counted = refl;
+        kept = k;
+        written =
+            w
+            ∙ lay-after reply (fourWords msg 0 0 0) (le 4 left) refl
+            ∙ ap₂ (λ (x y : ℕ). (fourWords x 0 0 0 ++ le 4 y) ++ drop 20 reply) (a .msg-is) n;
       }

@@ -79,7 +79,7 @@ gate-small none m = by-test (served (msgOf m)) (λ q. rw q (omega arith)) (λ q.
 gate-small (some s) m =
     by-test (served (msgOf m))
     (λ q.
-      by-test (checksumWrong (s .version) (kindOf (msgOf m)) m)
-      (λ w. rw (q, w) (omega arith))
-      (λ w. rw (q, w) (omega arith)))
+    by-test (checksumWrong (s .version) (kindOf (msgOf m)) m)
+    (λ w. rw (q, w) (omega arith))
+    (λ w. rw (q, w) (omega arith)))
     (λ q. rw q (omega arith))

@@ -21,9 +21,9 @@ open-is b at =
     by-test (eqb (getD (part b at cursorSize) 0 0) 0)
     (λ q. rw (q, ← first, q))
     (λ q. rw (q, ← first, q))
-    where
-      first : getD (part b at cursorSize) 0 0 ≡ getD b at 0
-      first = getD-take cursorSize (drop at b) 0 0 (omega arith) ∙ getD-drop at b 0 0 ∙ ap (λ (k : ℕ). getD b k 0) (add-zero at)
+  where
+    first : getD (part b at cursorSize) 0 0 ≡ getD b at 0
+    first = getD-take cursorSize (drop at b) 0 0 (omega arith) ∙ getD-drop at b 0 0 ∙ ap (λ (k : ℕ). getD b k 0) (add-zero at)
 
 module _ (b : List ℕ) (handle : ℕ) where
   pub open-first : handle ≡ 1 → isOpen (cursorIn (seatIn b) handle) ≡ not (eqb (getD b firstAt 0) 0)
@@ -60,6 +60,6 @@ place-inside handle = by-test (eqb handle 1) (λ q. rw q (omega arith)) (λ q. r
 -- what a cursor's part, lent from its place on, leaves of the block
 pub put-is : (b : List ℕ) (at : ℕ) (part : List ℕ) → put b at (at + cursorSize - at) part ≡ put b at cursorSize part
 put-is b at part = ap (λ (n : ℕ). put b at n part) size
-    where
-      size : at + cursorSize - at ≡ cursorSize
-      size = omega arith
+  where
+    size : at + cursorSize - at ≡ cursorSize
+    size = omega arith

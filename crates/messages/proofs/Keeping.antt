@@ -50,9 +50,9 @@ module _ (P : Option Cursor → Type 0) (none-is : P none) where
     bound-of s m (some c) (some x) e f w h =
         put-of s (handleOf m) (some (rebound c (x .width) (x .columns))) w
         (bound c (x .width) (x .columns) h (fits f) (bindings-tidy m x e))
-        where
-          fits : not (fit (x .width) (x .columns)) ≡ false → fit (x .width) (x .columns) ≡ true
-          fits q = by-test (fit (x .width) (x .columns)) (λ k. k) (λ k. absurd (true≢false (rw k at q)))
+      where
+        fits : not (fit (x .width) (x .columns)) ≡ false → fit (x .width) (x .columns) ≡ true
+        fits q = by-test (fit (x .width) (x .columns)) (λ k. k) (λ k. absurd (true≢false (rw k at q)))
 
     done-of : (kind : ℕ) (s : Seat) (m : List ℕ) → firstCause (bodyCauses kind s m) ≡ 0 → Both (some s) → Both (doneOn kind s m .after)
     unfolding firstCause
@@ -60,16 +60,16 @@ module _ (P : Option Cursor → Type 0) (none-is : P none) where
         by-test (eqb kind 0)
         (λ q. rw q tt)
         (λ q.
-          by-test (eqb kind 1)
-          (λ k. rw (q, k) (put-of s (handleOf m) none w none-is))
-          (λ k. rw (q, k) (bound-of s m (cursorIn s (handleOf m)) (bindings m) refl (fit-told (rw (q, k) at e)) w (cursor-of s (handleOf m) w))))
-        where
-          fit-told : firstCause ((9, unread (bindings m)) ∷ (10, not (isOpen (cursorIn s (handleOf m)))) ∷ (12, unfit (bindings m)) ∷ []) ≡ 0 → unfit (bindings m) ≡ false
-          fit-told c =
-              let r : firstCause ((12, unfit (bindings m)) ∷ []) ≡ 0
-                  = first-both ((9, unread (bindings m)) ∷ (10, not (isOpen (cursorIn s (handleOf m)))) ∷ []) ((12, unfit (bindings m)) ∷ [])
-                    ((λ z. omega arith), ((λ z. omega arith), tt)) c .1 in
-              by-test (unfit (bindings m)) (λ k. absurd (let z : _≡_ {A = ℕ} 12 0 = rw k at r in omega arith)) (λ k. k)
+        by-test (eqb kind 1)
+        (λ k. rw (q, k) (put-of s (handleOf m) none w none-is))
+        (λ k. rw (q, k) (bound-of s m (cursorIn s (handleOf m)) (bindings m) refl (fit-told (rw (q, k) at e)) w (cursor-of s (handleOf m) w))))
+      where
+        fit-told : firstCause ((9, unread (bindings m)) ∷ (10, not (isOpen (cursorIn s (handleOf m)))) ∷ (12, unfit (bindings m)) ∷ []) ≡ 0 → unfit (bindings m) ≡ false
+        fit-told c =
+            let r : firstCause ((12, unfit (bindings m)) ∷ []) ≡ 0
+            = first-both ((9, unread (bindings m)) ∷ (10, not (isOpen (cursorIn s (handleOf m)))) ∷ []) ((12, unfit (bindings m)) ∷ [])
+            ((λ z. omega arith), ((λ z. omega arith), tt)) c .1 in
+            by-test (unfit (bindings m)) (λ k. absurd (let z : _≡_ {A = ℕ} 12 0 = rw k at r in omega arith)) (λ k. k)
 
     pub message-keeps : (held : Option Seat) (m : List ℕ) → Both held → Both (seatMessage held m .after)
     unfolding seatMessage
@@ -77,10 +77,10 @@ module _ (P : Option Cursor → Type 0) (none-is : P none) where
     message-keeps (some s) m w =
         by-test (eqb (firstCause (seatCauses (some s) m)) 0)
         (λ q.
-          rw q
-          (done-of (kindOf (msgOf m)) s m
-          (first-both (gateCauses (some s) m) (bodyOf (some s) m) (gate-numbered (some s) m) (eqb-true (firstCause (seatCauses (some s) m)) 0 q) .1)
-          w))
+        rw q
+        (done-of (kindOf (msgOf m)) s m
+        (first-both (gateCauses (some s) m) (bodyOf (some s) m) (gate-numbered (some s) m) (eqb-true (firstCause (seatCauses (some s) m)) 0 q) .1)
+        w))
         (λ q. rw q w)
 
 -- so a message keeps a seat fit
@@ -90,22 +90,24 @@ rebound-fits c width columns f b t = record { position = f .position; rows = f .
 
 pub message-fits : (held : Option Seat) (m : List ℕ) → SeatOk held → SeatOk (seatMessage held m .after)
 message-fits held m f = out (seatMessage held m .after) (message-keeps CursorOk tt rebound-fits held m (into held f))
-    where
-      into : (o : Option Seat) → SeatOk o → Both CursorOk tt o
-      into none w = tt
-      into (some s) w = w
-      out : (o : Option Seat) → Both CursorOk tt o → SeatOk o
-      out none w = tt
-      out (some s) w = w
+  where
+    into : (o : Option Seat) → SeatOk o → Both CursorOk tt o
+    into none w = tt
+    into (some s) w = w
+
+    out : (o : Option Seat) → Both CursorOk tt o → SeatOk o
+    out none w = tt
+    out (some s) w = w
 
 -- and its row numbers below a bound
 pub message-below : (bound : ℕ) (held : Option Seat) (m : List ℕ) → seatBelow bound held ≡ true → seatBelow bound (seatMessage held m .after) ≡ true
 message-below bound held m f =
     out (seatMessage held m .after) (message-keeps (λ o. cursorBelow bound o ≡ true) refl (λ c width columns h b t. h) held m (into held f))
-    where
-      into : (o : Option Seat) → seatBelow bound o ≡ true → Both (λ o. cursorBelow bound o ≡ true) refl o
-      into none w = tt
-      into (some s) w = (both-left _ (cursorBelow bound (s .second)) w, both-right (cursorBelow bound (s .first)) _ w)
-      out : (o : Option Seat) → Both (λ o. cursorBelow bound o ≡ true) refl o → seatBelow bound o ≡ true
-      out none w = refl
-      out (some s) w = both-true (cursorBelow bound (s .first)) (cursorBelow bound (s .second)) (w .0) (w .1)
+  where
+    into : (o : Option Seat) → seatBelow bound o ≡ true → Both (λ o. cursorBelow bound o ≡ true) refl o
+    into none w = tt
+    into (some s) w = (both-left _ (cursorBelow bound (s .second)) w, both-right (cursorBelow bound (s .first)) _ w)
+
+    out : (o : Option Seat) → Both (λ o. cursorBelow bound o ≡ true) refl o → seatBelow bound o ≡ true
+    out none w = refl
+    out (some s) w = both-true (cursorBelow bound (s .first)) (cursorBelow bound (s .second)) (w .0) (w .1)

@@ -126,10 +126,10 @@ doneOn kind s m =
     pick (eqb kind 0) (record { refusal = 0; reply = []; after = none })
     (pick (eqb kind 1)
     (record { refusal = 0; reply = fourWords (msgOf m) 0 0 0 ++ le 4 (stillOpen (freed s m)); after = some (freed s m) })
-    (record
-    { refusal = 0
-    ; reply = fourWords (msgOf m) 0 0 0
-    ; after = some (boundTo s (handleOf m) (cursorIn s (handleOf m)) (bindings m))
+    (record {
+      refusal = 0;
+      reply = fourWords (msgOf m) 0 0 0;
+      after = some (boundTo s (handleOf m) (cursorIn s (handleOf m)) (bindings m));
     }))
 
 abbrev pub doneBy : Option Seat → List ℕ → SeatOutcome

@@ -21,16 +21,34 @@ pub struct Answered {
 
 // The statuses of the refusals, by number; those of 0 to 5 are never sent.
 const STATUSES: [u32; 17] = [
-    0, 0, 0, 0, 0, 0, 0xC000000D, 0xC000000D, 0xC000000D, 0xC000000D, 0x80004005, 0x8000FFFF,
-    0x80040E08, 0xC00000BB, 0xC000009A, 0xC0000023, 0xC000000D,
+    0,
+    0,
+    0,
+    0,
+    0,
+    0,
+    0xC000000D,
+    0xC000000D,
+    0xC000000D,
+    0xC000000D,
+    0x80004005,
+    0x8000FFFF,
+    0x80040E08,
+    0xC00000BB,
+    0xC000009A,
+    0xC0000023,
+    0xC000000D,
 ];
 
 // The messages served: each its number, and 1 where its checksum is tested.
 const MESSAGES: [u32; 6] = [0xC9, 0, 0xCB, 0, 0xD0, 1];
 
 const KINDS: usize = 3;
+
 const FIRST: usize = 2;
+
 const SECOND: usize = 1076;
+
 const CURSOR_SIZE: usize = 1074;
 
 fn status(refusal: usize) -> u32
@@ -96,7 +114,7 @@ fn refuse(reply: &mut [u8], msg: u32, refusal: u32) -> Answered
 }
 
 // Whether a handle is open.
-fn is_open(block: &[u32], handle: u32) -> bool
+pub fn is_open(block: &[u32], handle: u32) -> bool
     requires { ⌜ length (now block) ≡ seatSize ⌝ }
     ensures { λ r. ⌜ r ≡ isOpen (cursorIn (seatIn (now (block .entry))) handle) ⌝ }
 {
@@ -129,7 +147,7 @@ fn open_count(block: &[u32]) -> u32
 }
 
 // The place of a handle's cursor.
-fn cursor_at(handle: u32) -> usize
+pub fn cursor_at(handle: u32) -> usize
     ensures { λ r. ⌜ r ≡ cursorPlace handle ⌝ }
 {
     if handle == 1 {

@@ -64,12 +64,12 @@ passes src t seat e =
     by-test (ltb 7 seat)
     (λ q. absurd (let z : 1 ≡ 0 = rw q at e in omega arith))
     (λ q.
-      by-test (tableWell t)
-      (λ w.
-        by-test (rowsHold (src .rows) t)
-        (λ r. record { seat-in = omega (arith, ltb-false 7 seat q); table-in = w; rows-in = r })
-        (λ r. absurd (let z : 3 ≡ 0 = rw (q, w, r) at e in omega arith)))
-      (λ w. absurd (let z : 2 ≡ 0 = rw (q, w) at e in omega arith)))
+    by-test (tableWell t)
+    (λ w.
+    by-test (rowsHold (src .rows) t)
+    (λ r. record { seat-in = omega (arith, ltb-false 7 seat q); table-in = w; rows-in = r })
+    (λ r. absurd (let z : 3 ≡ 0 = rw (q, w, r) at e in omega arith)))
+    (λ w. absurd (let z : 2 ≡ 0 = rw (q, w) at e in omega arith)))
 
 -- the judgement of a call that is refused, and of one that is not
 pub judged-by : (t s : List ℕ) (seat n : ℕ) (held found : List ℕ) → firstCause (judging (sourcesOf s) t seat) ≡ n → (n ≡ 0 → ⊥)

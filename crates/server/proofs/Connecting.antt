@@ -16,12 +16,12 @@ use Rattle.server.proofs.Causes.{judging-numbered}
 -- an outcome of which nothing is written
 quietly : (o : Outcome) (n : ℕ) (words : List ℕ) → o ≡ quiet n words → Keeps o n 0 0 words [] []
 quietly o n words e =
-    record
-    { refused = sym (ap (λ (x : Outcome). x .refusal) e)
-    ; given = sym (ap (λ (x : Outcome). x .handle) e)
-    ; counted = rw e
-    ; kept = sym (ap (λ (x : Outcome). x .words) e)
-    ; written = rw e
+    record {
+      refused = sym (ap (λ (x : Outcome). x .refusal) e);
+      given = sym (ap (λ (x : Outcome). x .handle) e);
+      counted = rw e;
+      kept = sym (ap (λ (x : Outcome). x .words) e);
+      written = rw e;
     }
 
 module _ (src : Sources) (t : List ℕ) (seat version : ℕ) where

@@ -54,12 +54,12 @@ module _ (src : Sources) (t : List ℕ) (seat : ℕ) (m : List ℕ) (entry : Lis
     unfolding firstCause messageStep
     message-answered h l k r block exit a =
         let f : firstCause (judging src t seat ++ sizing m (length entry)) ≡ 0
-            = sizes ∙ rw (le-ltb (length entry) 16384 h, le-leb 16 (length m) l, le-leb (length m) 16384 k) in
+        = sizes ∙ rw (le-ltb (length entry) 16384 h, le-leb 16 (length m) l, le-leb (length m) 16384 k) in
         rw f
-        record
-        { refused = a .refused
-        ; given = refl
-        ; counted = a .counted
-        ; kept = seated-is t seat block (seatMessage (seatHeld t seat) m .after) (a .kept)
-        ; written = a .written
+        record {
+          refused = a .refused;
+          given = refl;
+          counted = a .counted;
+          kept = seated-is t seat block (seatMessage (seatHeld t seat) m .after) (a .kept);
+          written = a .written;
         }

@@ -15,10 +15,10 @@ pub record Same (refusal refusal′ handle handle′ count count′ : ℕ) (word
 pub keeps-once : (o : Outcome) (r r′ h h′ c c′ : ℕ) (w w′ entry x x′ : List ℕ) → Keeps o r h c w entry x → Keeps o r′ h′ c′ w′ entry x′
     → Same r r′ h h′ c c′ w w′ x x′
 keeps-once o r r′ h h′ c c′ w w′ entry x x′ k l =
-    record
-    { refused = k .refused ∙ sym (l .refused)
-    ; given = k .given ∙ sym (l .given)
-    ; counted = k .counted ∙ sym (l .counted)
-    ; kept = k .kept ∙ sym (l .kept)
-    ; written = k .written ∙ sym (l .written)
+    record {
+      refused = k .refused ∙ sym (l .refused);
+      given = k .given ∙ sym (l .given);
+      counted = k .counted ∙ sym (l .counted);
+      kept = k .kept ∙ sym (l .kept);
+      written = k .written ∙ sym (l .written);
     }

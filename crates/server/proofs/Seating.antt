@@ -49,6 +49,6 @@ module _ (t : List ℕ) (w : tableWell t ≡ true) (seat : ℕ) (h : seat < seat
 pub seated-is : (t : List ℕ) (seat : ℕ) (block : List ℕ) (s : Option Seat) → block ≡ seatBlock s
     → put t (seatAt seat) (seatAt seat + seatSize - seatAt seat) block ≡ seated t seat s
 seated-is t seat block s e = ap₂ (λ (n : ℕ) (b : List ℕ). put t (seatAt seat) n b) size e
-    where
-      size : seatAt seat + seatSize - seatAt seat ≡ seatSize
-      size = omega arith
+  where
+    size : seatAt seat + seatSize - seatAt seat ≡ seatSize
+    size = omega arith

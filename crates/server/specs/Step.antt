@@ -14,6 +14,7 @@ use Rattle.sessions.specs.Seat.{Seat, seatBlock, seatOf, fresh}
 use Rattle.sessions.specs.Well.{tableWell, tableBelow}
 use Rattle.messages.specs.Refusal.{firstCause}
 use Rattle.messages.specs.Message.{SeatOutcome, seatMessage}
+use Rattle.opening.specs.Open.{freeHandle, openCauses, openedOn}
 
 -- what a call reads beside the table: the rows of the catalogue, none where it is malformed
 pub record Sources : Type 0 where
@@ -84,3 +85,15 @@ messageStep src t seat m room =
     pick (eqb (firstCause (judging src t seat ++ sizing m room)) 0)
     (onSeat t seat (seatMessage (seatHeld t seat) m))
     (quiet (firstCause (judging src t seat ++ sizing m room)) t)
+
+-- opening: 7, 14 and 16 are judged of the seat and the tree; "opening also [returns] the handle (0 if refused)"
+abbrev pub openDone : Sources → List ℕ → ℕ → List ℕ → Option Seat → Outcome
+openDone src t seat tree none = quiet 7 t
+openDone src t seat tree (some s) =
+    record { refusal = 0; handle = freeHandle s; reply = []; words = seated t seat (some (openedOn s tree (src .rows))) }
+
+unfoldable pub openStep : Sources → List ℕ → ℕ → List ℕ → Outcome
+openStep src t seat tree =
+    pick (eqb (firstCause (judging src t seat ++ openCauses (seatHeld t seat) tree)) 0)
+    (openDone src t seat tree (seatHeld t seat))
+    (quiet (firstCause (judging src t seat ++ openCauses (seatHeld t seat) tree)) t)

@@ -4,14 +4,15 @@ ghost use mathlib.Core.List.{[]};
 ghost use lib.ListN.{length};
 ghost use Prim.Native.Nat.{_+_, _≤_, _<_};
 ghost use Rattle.messages.specs.Refusal.{firstCause};
-ghost use Rattle.server.specs.Step.{sourcesOf, judging, connectStep, messageStep, Keeps};
+ghost use Rattle.server.specs.Step.{sourcesOf, judging, connectStep, openStep, messageStep, Keeps};
 ghost use Rattle.server.specs.Judgement.{Judgement};
-
 use messages::Answered;
 
 // A seat, a cursor's handle and a row's number: three types, so that none can stand for another.
 pub struct Seat(pub u32);
+
 pub struct Handle(pub u32);
+
 pub struct Row(pub u32);
 
 const SEAT_SIZE: usize = 2150;
@@ -27,19 +28,31 @@ fn judge(table: &[u32], bytes: &[u8], seat: u32, places: &mut [u32; 1024]) -> Ju
     ensures { λ r. ⌜ Judgement (now (table .entry)) (now (bytes .entry)) seat r (now (places .entry)) (now (places .exit)) ⌝ }
 {
     if 7 < seat {
-        return Judged { refusal: 1, rows: 0 };
+        return Judged {
+            refusal: 1,
+            rows: 0,
+        };
     }
     if !sessions::well(table) {
-        return Judged { refusal: 2, rows: 0 };
+        return Judged {
+            refusal: 2,
+            rows: 0,
+        };
     }
     let checked = catalogue::check(bytes, places);
     let refusal = checked.refusal;
     let rows = checked.rows;
     if refusal != 0 {
-        return Judged { refusal: 3, rows: 0 };
+        return Judged {
+            refusal: 3,
+            rows: 0,
+        };
     }
     if !sessions::below(table, rows) {
-        return Judged { refusal: 3, rows: 0 };
+        return Judged {
+            refusal: 3,
+            rows: 0,
+        };
     }
     Judged { refusal: 0, rows }
 }
@@ -64,8 +77,53 @@ pub fn connect(table: &mut [u32], catalogue: &[u8], seat: Seat, version: u32) ->
     0
 }
 
+// The answer to opening: the refusal number, else 0, and the handle, 0 where it is refused.
+pub struct Opened {
+    pub refusal: u32,
+    pub handle: Handle,
+}
+
+// Opens a query on a seat: the rows that the tree selects.
+pub fn open(table: &mut [u32], catalogue: &[u8], seat: Seat, tree: &[u8]) -> Opened
+    ensures { λ r. ⌜ Keeps (openStep (sourcesOf (now (catalogue .entry))) (now (table .entry)) (seat .0) (now (tree .entry))) (r .refusal) (r .handle .0) 0 (now (table .exit)) [] [] ⌝ }
+{
+    let k = seat.0;
+    let mut places = [0u32; 1024];
+    let judged = judge(table, catalogue, k, &mut places);
+    let refusal = judged.refusal;
+    let rows = judged.rows;
+    if refusal != 0 {
+        return Opened {
+            refusal,
+            handle: Handle(0),
+        };
+    }
+    let at = SEAT_SIZE * (k as usize);
+    let end = at + SEAT_SIZE;
+    let opened = opening::judge(&table[at..end], tree);
+    let refused = opened.refusal;
+    let handle = opened.handle;
+    if refused != 0 {
+        return Opened {
+            refusal: refused,
+            handle: Handle(0),
+        };
+    }
+    opening::open(&mut table[at..end], handle, tree, catalogue, rows, &places);
+    Opened {
+        refusal: 0,
+        handle: Handle(handle),
+    }
+}
+
 // A message from a seat.
-pub fn message(table: &mut [u32], catalogue: &[u8], seat: Seat, message: &[u8], reply: &mut [u8]) -> Answered
+pub fn message(
+    table: &mut [u32],
+    catalogue: &[u8],
+    seat: Seat,
+    message: &[u8],
+    reply: &mut [u8],
+) -> Answered
     ensures { λ r. ⌜ Keeps (messageStep (sourcesOf (now (catalogue .entry))) (now (table .entry)) (seat .0) (now (message .entry)) (length (now (reply .entry)))) (r .refusal) 0 (r .count) (now (table .exit)) (now (reply .entry)) (now (reply .exit)) ⌝ }
 {
     let k = seat.0;

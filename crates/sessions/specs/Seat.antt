@@ -53,10 +53,10 @@ cursorOf b = pick (eqb (getD b openAt 0) 0) none (some (cursorHeld b))
 
 abbrev pub seatIn : List ℕ → Seat
 seatIn b =
-    record
-    { version = getD b versionAt 0
-    ; first = cursorOf (part b firstAt cursorSize)
-    ; second = cursorOf (part b secondAt cursorSize)
+    record {
+      version = getD b versionAt 0;
+      first = cursorOf (part b firstAt cursorSize);
+      second = cursorOf (part b secondAt cursorSize);
     }
 
 abbrev pub seatOf : List ℕ → Option Seat

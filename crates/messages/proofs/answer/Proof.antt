@@ -56,12 +56,12 @@ disconnect-requires c κs =
     let m = a .args .m .now in
     let k = c .before .before .before .before .before .before .kind .ensures ∙ ap kindOf (c .before .before .before .before .before .before .before .word .ensures) in
     let g = sym (c .before .before .before .before .gate .ensures) ∙ c .before .before .before .if1 .left in
-    record
-    { given = a .pre
-    ; connected = gate-connected (a .args .block .now) m g
-    ; msg-is = c .before .before .before .before .before .before .before .word .ensures
-    ; kind-is = sym k ∙ c .before .before .if2 .taken
-    ; gated = g
+    record {
+      given = a .pre;
+      connected = gate-connected (a .args .block .now) m g;
+      msg-is = c .before .before .before .before .before .before .before .word .ensures;
+      kind-is = sym k ∙ c .before .before .if2 .taken;
+      gated = g;
     }
 
 same-length-3 : tie.Need-same-length-3
@@ -79,12 +79,12 @@ free-requires c κs =
     let m = a .args .m .now in
     let k = c .before .before .before .before .before .before .before .kind .ensures ∙ ap kindOf (c .before .before .before .before .before .before .before .before .word .ensures) in
     let g = sym (c .before .before .before .before .before .gate .ensures) ∙ c .before .before .before .before .if1 .left in
-    record
-    { given = a .pre
-    ; connected = gate-connected (a .args .block .now) m g
-    ; msg-is = c .before .before .before .before .before .before .before .before .word .ensures
-    ; kind-is = sym k ∙ c .before .before .if3 .taken
-    ; gated = g
+    record {
+      given = a .pre;
+      connected = gate-connected (a .args .block .now) m g;
+      msg-is = c .before .before .before .before .before .before .before .before .word .ensures;
+      kind-is = sym k ∙ c .before .before .if3 .taken;
+      gated = g;
     }
 
 same-length-5 : tie.Need-same-length-5
@@ -102,12 +102,12 @@ bind-requires c κs =
     let m = a .args .m .now in
     let k = c .before .before .before .before .before .before .before .kind .ensures ∙ ap kindOf (c .before .before .before .before .before .before .before .before .word .ensures) in
     let g = sym (c .before .before .before .before .before .gate .ensures) ∙ c .before .before .before .before .if1 .left in
-    record
-    { given = a .pre
-    ; connected = gate-connected (a .args .block .now) m g
-    ; msg-is = c .before .before .before .before .before .before .before .before .word .ensures
-    ; kind-is = omega (arith, k, gate-served (a .args .block .now) m g, c .before .before .before .if2 .left, c .before .before .if3 .left)
-    ; gated = g
+    record {
+      given = a .pre;
+      connected = gate-connected (a .args .block .now) m g;
+      msg-is = c .before .before .before .before .before .before .before .before .word .ensures;
+      kind-is = omega (arith, k, gate-served (a .args .block .now) m g, c .before .before .before .if2 .left, c .before .before .if3 .left);
+      gated = g;
     }
 
 same-length-7 : tie.Need-same-length-7

@@ -49,7 +49,7 @@ returns c =
     let inside : at + cursorSize ≤ length b = omega (arith, a .pre, c .before .before .before .before .cursor-at .ensures, place-inside (a .args .handle)) in
     put-is b at (c .before .before .clear .last .0)
     ∙ ap₂ (λ (p : ℕ) (x : List ℕ). put b p cursorSize x) (c .before .before .before .before .cursor-at .ensures)
-      (c .before .before .clear .ensures ∙ ap zeros (ap length (part-is b at cursorSize) ∙ part-length b at cursorSize inside))
+    (c .before .before .clear .ensures ∙ ap zeros (ap length (part-is b at cursorSize) ∙ part-length b at cursorSize inside))
 
 pub close-spec : {M : Type 1} → statement M
 close-spec =

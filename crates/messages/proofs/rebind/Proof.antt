@@ -47,10 +47,10 @@ returns c =
     let at = c .before .before .before .before .cursor-at .result in
     put-is b at (c .before .before .bind .last .0)
     ∙ ap (put b at cursorSize)
-      (c .before .before .bind .ensures
-      ∙ ap (λ (y : List ℕ). put (set (set y columnsAt (a .count)) widthAt (a .width)) recordsAt recordsSize (a .records .now)) (part-is b at cursorSize))
+    (c .before .before .bind .ensures
+    ∙ ap (λ (y : List ℕ). put (set (set y columnsAt (a .count)) widthAt (a .width)) recordsAt recordsSize (a .records .now)) (part-is b at cursorSize))
     ∙ ap (λ (p : ℕ). put b p cursorSize (put (set (set (part b p cursorSize) columnsAt (a .count)) widthAt (a .width)) recordsAt recordsSize (a .records .now)))
-      (c .before .before .before .before .cursor-at .ensures)
+    (c .before .before .before .before .cursor-at .ensures)
 
 pub rebind-spec : {M : Type 1} → statement M
 rebind-spec =

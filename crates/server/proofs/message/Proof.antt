@@ -90,12 +90,12 @@ answer-requires c κs =
     let e = sym (c .before .before .before .before .before .before .judge .ensures .refused) ∙ c .before .before .before .before .before .if1 .left in
     let t = a .table .now in
     let p = passes (sourcesOf (a .catalogue .now)) t (a .seat .0) e in
-    record
-    { size = ap length (part-is t (seatSize * a .seat .0) seatSize) ∙ block-size t (table-length t (p .table-in)) (a .seat .0) (p .seat-in)
-    ; well = ap seatWell (part-is t (seatSize * a .seat .0) seatSize) ∙ table-seat t (p .table-in) (a .seat .0) (p .seat-in)
-    ; least = c .before .before .before .if3 .left
-    ; most = c .before .before .if4 .left
-    ; room = c .before .before .before .before .if2 .left
+    record {
+      size = ap length (part-is t (seatSize * a .seat .0) seatSize) ∙ block-size t (table-length t (p .table-in)) (a .seat .0) (p .seat-in);
+      well = ap seatWell (part-is t (seatSize * a .seat .0) seatSize) ∙ table-seat t (p .table-in) (a .seat .0) (p .seat-in);
+      least = c .before .before .before .if3 .left;
+      most = c .before .before .if4 .left;
+      room = c .before .before .before .before .if2 .left;
     }
 
 same-length-5 : tie.Need-same-length-5

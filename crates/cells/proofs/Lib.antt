@@ -1,0 +1,4 @@
+pub mod Little
+pub mod Units
+pub mod Fields
+pub mod Column

@@ -1,0 +1,88 @@
+// What opening a query does to its seat.
+ghost use mathlib.Core.Path.{_≡_};
+ghost use mathlib.Core.Option.{none, some};
+ghost use Prim.Native.Nat.{_≤_};
+ghost use lib.ListN.{length, getD};
+ghost use Rattle.sessions.specs.Layout.{seatSize, cursorSize, cursorPlace, part, put};
+ghost use Rattle.sessions.specs.Seat.{cursorBlock, seatIn, seatOf, opened};
+ghost use Rattle.select.specs.Select.{selected};
+ghost use Rattle.select.specs.Noted.{Noted};
+ghost use Rattle.opening.specs.Open.{freeHandle};
+ghost use Rattle.opening.specs.Answer.{Judged};
+
+const CURSOR_SIZE: usize = 1074;
+
+const ROWS: usize = 50;
+
+// The answer to opening: the refusal number, else 0, and the handle, 0 where it is refused.
+pub struct Opened {
+    pub refusal: u32,
+    pub handle: u32,
+}
+
+// The lowest free handle, or 0.
+fn free_handle(block: &[u32]) -> u32
+    requires { ⌜ length (now block) ≡ seatSize ⌝ }
+    ensures { λ r. ⌜ r ≡ freeHandle (seatIn (now (block .entry))) ⌝ }
+{
+    if !messages::is_open(block, 1) {
+        return 1;
+    }
+    if !messages::is_open(block, 2) {
+        return 2;
+    }
+    0
+}
+
+// Refusals 7, 14 and 16 on a seat's block, or the handle to open.
+pub fn judge(block: &[u32], tree: &[u8]) -> Opened
+    requires { ⌜ length (now block) ≡ seatSize ⌝ }
+    ensures { λ r. ⌜ Judged (seatOf (now (block .entry))) (now (tree .entry)) r ⌝ }
+{
+    if block[0] == 0 {
+        return Opened {
+            refusal: 7,
+            handle: 0,
+        };
+    }
+    let handle = free_handle(block);
+    if handle == 0 {
+        return Opened {
+            refusal: 14,
+            handle: 0,
+        };
+    }
+    if !restriction::well_formed(tree) {
+        return Opened {
+            refusal: 16,
+            handle: 0,
+        };
+    }
+    Opened { refusal: 0, handle }
+}
+
+// Opens a closed cursor on the rows that a tree selects.
+fn fill(block: &mut [u32], tree: &[u8], catalogue: &[u8], rows: u32, places: &[u32; 1024])
+    requires { ⌜ (now block ≡ cursorBlock none) × Noted (now catalogue) rows (now places) ⌝ }
+    ensures { λ _. ⌜ now (block .exit) ≡ cursorBlock (some (opened (selected (now (tree .entry)) (now (catalogue .entry))))) ⌝ }
+{
+    let count = select::select(tree, catalogue, rows, places, &mut block[ROWS..CURSOR_SIZE]);
+    sessions::open(block, count);
+}
+
+// The same in a seat's block, under a handle.
+pub fn open(
+    block: &mut [u32],
+    handle: u32,
+    tree: &[u8],
+    catalogue: &[u8],
+    rows: u32,
+    places: &[u32; 1024],
+)
+    requires { ⌜ (length (now block) ≡ seatSize) × (part (now block) (cursorPlace handle) cursorSize ≡ cursorBlock none) × Noted (now catalogue) rows (now places) ⌝ }
+    ensures { λ _. ⌜ now (block .exit) ≡ put (now (block .entry)) (cursorPlace handle) cursorSize (cursorBlock (some (opened (selected (now (tree .entry)) (now (catalogue .entry)))))) ⌝ }
+{
+    let at = messages::cursor_at(handle);
+    let end = at + CURSOR_SIZE;
+    fill(&mut block[at..end], tree, catalogue, rows, places);
+}

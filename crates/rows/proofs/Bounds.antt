@@ -1,0 +1,48 @@
+-- How large a block is at most, and where fit columns lie. Assumes nothing.
+use mathlib.Core.Path.{_≡_, ap, _∙_}
+use mathlib.Core.List.{List}
+use Prim.Native.Nat.{ℕ, _+_, _≤_}
+use native.Mathlib.Omega.{arith}
+use lib.ListN.{length}
+use Rattle.words.proofs.Below.{by-test}
+use Rattle.catalogue.specs.Places.{rowOf, rowSeen}
+use Rattle.catalogue.specs.declared.Fields.{Fields}
+use Rattle.columns.specs.Fit.{isUsed}
+use Rattle.columns.specs.declared.Column.{Column}
+use Rattle.cells.specs.Field.{fieldAt, fieldSeen}
+use Rattle.cells.specs.Cell.{blockSize, blockRoom}
+use Rattle.cells.specs.Stands.{FieldsStand, FieldStands, fieldsSeen, ColumnIn}
+use Rattle.cells.specs.declared.FieldAt.{FieldAt}
+use Rattle.cells.specs.declared.FieldAt.the-variants.{NumberIs, TextIs, Absent}
+use Rattle.cells.proofs.Fields.{field-seen, field-stands, seen-stand, seen-row}
+use Rattle.cells.proofs.Units.{units-double}
+use Rattle.rows.specs.Ready.{blockMost}
+
+block-small : (s : List ℕ) (f : FieldAt) → FieldStands s f → blockSize (fieldSeen s f) ≤ blockMost
+block-small s (NumberIs v) h = omega arith
+block-small s (TextIs t) h = omega (arith, units-double s t (h .0) (h .1), h .0 .small)
+block-small s Absent h = omega arith
+
+pub room-small : (s : List ℕ) (f : Fields) (c : Column) → FieldsStand s f → blockRoom c (rowOf s f) ≤ blockMost
+room-small s f c h =
+    by-test (isUsed (c .value .used))
+    (λ q. rw (q, ← (field-seen s (c .property) f)) (block-small s (fieldAt (c .property) f) (field-stands s (c .property) f h)))
+    (λ q. rw q (omega arith))
+
+-- a row of a width that lies in n bytes has its columns there
+pub column-in : (width n row : ℕ) (c : Column) → row + width ≤ n → ColumnIn width 0 c → ColumnIn n row c
+column-in width n row c h i =
+    record {
+      typed = i .typed;
+      value = λ u. omega (arith, i .value u);
+      status = λ u. omega (arith, i .status u);
+      length = λ u. omega (arith, i .length u);
+    }
+
+-- the fields that were found at a place
+module _ (s : List ℕ) (at : ℕ) (f : Fields) (is : f ≡ fieldsSeen s at) where
+  pub fields-stand : FieldsStand s f
+  fields-stand = rw is (seen-stand s at)
+
+  pub fields-row : rowOf s f ≡ rowSeen s at
+  fields-row = ap (rowOf s) is ∙ seen-row s at

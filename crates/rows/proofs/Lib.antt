@@ -1,0 +1,10 @@
+pub mod Steps
+pub mod Bounds
+pub mod Parts
+pub mod Bound
+pub mod Whole
+pub mod Greatest
+pub mod Vectors
+pub mod Spans
+pub mod Lie
+pub mod Reply

@@ -1,0 +1,62 @@
+-- What the writers of rows rely on.
+use mathlib.Core.Path.{_≡_}
+use mathlib.Core.Bool.{true}
+use mathlib.Core.List.{List, [], _∷_}
+use Prim.Native.Nat.{ℕ, _+_, _*_, _^_, _≤_, _<_}
+use lib.ListN.{length}
+use Rattle.catalogue.specs.Limits.{rowsMost}
+use Rattle.catalogue.specs.Plain.{Row}
+use Rattle.catalogue.specs.Places.{rowSeen}
+use Rattle.columns.specs.Column.{roomWords, columnsMost, columnAt, columnsOf}
+use Rattle.columns.specs.Fit.{fit}
+use Rattle.columns.specs.declared.Column.{Column}
+use Rattle.cells.specs.Cell.{offsetWidth}
+use Rattle.cells.specs.Stands.{ColumnIn}
+use Rattle.rows.specs.Page.{blocks, allBlocks}
+
+-- the words of at most five columns
+pub record Words (words : List ℕ) (bound : ℕ) : Type 0 where
+  pub long : length words ≡ roomWords
+  pub few : bound ≤ columnsMost
+
+-- the blocks of a row take at most this: five columns, each with a text of at most 2,048 units and its zero unit
+abbrev pub blockMost : ℕ
+blockMost = 4098
+
+abbrev pub blocksMost : ℕ
+blocksMost = 20490
+
+-- each column lies in the first n bytes, in a row at `row`
+abbrev pub ColumnsIn : ℕ → ℕ → List ℕ → ℕ → Type 0
+ColumnsIn n row words bound = (k : ℕ) → k < bound → ColumnIn n row (columnAt words k)
+
+-- the room that rows take, row by row: their width and their blocks
+unfoldable pub needed : ℕ → List Column → List Row → ℕ
+needed width columns [] = 0
+needed width columns (r ∷ rows) = width + blocks columns r + needed width columns rows
+
+-- a row in a reply of n bytes
+pub record RowReady (n : ℕ) (s : List ℕ) (at : ℕ) (words : List ℕ) (bound base row top : ℕ) : Type 0 where
+  pub given : Words words bound
+  pub columns : ColumnsIn n row words bound
+  pub room : blocks (columnsOf bound words) (rowSeen s at) ≤ top
+  pub ends : top ≤ n
+  pub offset : base + top < 256 ^ offsetWidth
+
+-- rows in a reply of n bytes
+pub record RowsReady (n : ℕ) (words : List ℕ) (bound width : ℕ) (rows : List Row) (base row top : ℕ) : Type 0 where
+  pub given : Words words bound
+  pub columns : ColumnsIn width 0 words bound
+  pub room : row + needed width (columnsOf bound words) rows ≤ top
+  pub ends : top ≤ n
+  pub offset : base + top < 256 ^ offsetWidth
+
+-- a whole reply in a buffer of n bytes: fit bindings, rows that fit, and "_ulClientBase + B" not "above 4,294,967,295"
+pub record PageReady (n : ℕ) (words : List ℕ) (bound width : ℕ) (rows : List Row) (size from base : ℕ) : Type 0 where
+  pub long : length words ≡ roomWords
+  pub fits : fit width (columnsOf bound words) ≡ true
+  pub head : 32 ≤ from
+  pub few : length rows ≤ rowsMost
+  pub room : from + length rows * width + allBlocks (columnsOf bound words) rows ≤ size
+  pub ends : size ≤ n
+  pub offset : base + size < 256 ^ offsetWidth

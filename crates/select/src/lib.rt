@@ -1,0 +1,52 @@
+// The rows that a tree selects.
+ghost use mathlib.Core.Path.{_≡_};
+ghost use Prim.Native.Nat.{_≤_};
+ghost use lib.ListN.{length};
+ghost use Rattle.catalogue.specs.Limits.{rowsMost};
+ghost use Rattle.catalogue.specs.Places.{rowSeen};
+ghost use Rattle.restriction.specs.Reader.{restriction};
+ghost use Rattle.select.specs.Select.{heldBy, Selected};
+ghost use Rattle.select.specs.Noted.{Noted, Stands};
+use catalogue::RowAt;
+use restriction::TreeAnswer;
+
+// Whether the tree holds for the row at a place.
+fn holds_at(tree: &[u8], catalogue: &[u8], place: u32) -> bool
+    requires { ⌜ Stands (now catalogue) place ⌝ }
+    ensures { λ r. ⌜ r ≡ heldBy (restriction (now (tree .entry))) (rowSeen (now (catalogue .entry)) place) ⌝ }
+{
+    let RowAt::RowTo(row, _) = catalogue::read_row(catalogue, place as usize) else {
+        return false;
+    };
+    let TreeAnswer::Holds(holds) = restriction::tree(tree, catalogue, row) else {
+        return false;
+    };
+    holds
+}
+
+// The numbers of the selected rows go into the lent words from the first on; their count is returned. Each row is read once, at the
+// place that the check noted.
+pub fn select(
+    tree: &[u8],
+    catalogue: &[u8],
+    rows: u32,
+    places: &[u32; 1024],
+    into: &mut [u32],
+) -> u32
+    requires { ⌜ Noted (now catalogue) rows (now places) × (rowsMost ≤ length (now into)) ⌝ }
+    ensures { λ r. ⌜ Selected (now (tree .entry)) (now (catalogue .entry)) (now (into .entry)) r (now (into .exit)) ⌝ }
+{
+    let mut count: u32 = 0;
+    let mut next: u32 = 0;
+    while next < rows {
+        let row = next;
+        next += 1;
+        let place = places[row as usize];
+        if !holds_at(tree, catalogue, place) {
+            continue;
+        }
+        into[count as usize] = row;
+        count += 1;
+    }
+    count
+}
