@@ -39,7 +39,7 @@ fn text_field(text: Text) -> FieldAt
 }
 
 // The field of a property.
-pub fn field(fields: Fields, property: u32) -> FieldAt
+fn field(fields: Fields, property: u32) -> FieldAt
     ensures { λ r. ⌜ r ≡ fieldAt property fields ⌝ }
 {
     if property == columns::KEY {
@@ -113,7 +113,7 @@ fn status(field: FieldAt) -> u8
 }
 
 // The bytes of a field's block.
-pub fn block_size(field: FieldAt) -> usize
+fn block_size(field: FieldAt) -> usize
     requires { ⌜ FieldSmall field ⌝ }
     ensures { λ r. ⌜ InAny (λ s. FieldStands s field → r ≡ blockSize (fieldSeen s field)) ⌝ }
 {

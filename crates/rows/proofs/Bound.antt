@@ -16,6 +16,16 @@ use Rattle.cells.specs.Stands.{ColumnIn}
 use Rattle.rows.specs.Ready.{ColumnsIn}
 use Rattle.rows.proofs.Parts.{Good, good, First, first}
 
+-- a row of a width that lies in n bytes has its columns there
+pub column-in : (width n row : ℕ) (c : Column) → row + width ≤ n → ColumnIn width 0 c → ColumnIn n row c
+column-in width n row c h i =
+    record {
+      typed = i .typed;
+      value = λ u. omega (arith, i .value u);
+      status = λ u. omega (arith, i .status u);
+      length = λ u. omega (arith, i .length u);
+    }
+
 in-row : (width : ℕ) (c : Column) (s : List Column) → First width c s → ColumnIn width 0 c
 in-row width c s f =
     record {

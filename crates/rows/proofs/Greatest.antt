@@ -1,19 +1,21 @@
 -- The rows returned are the greatest number that is asked for, remains and fits. Assumes nothing.
-use mathlib.Core.Path.{_≡_, ap, _∙_}
+use mathlib.Core.Path.{_≡_, refl, ap, _∙_}
 use mathlib.Core.List.{List, [], _∷_}
-use Prim.Native.Nat.{ℕ, zero, suc, _+_, _-_, _*_, _≤_}
+use mathlib.Core.Logic.{_↔_}
+use Prim.Native.Nat.{ℕ, zero, suc, _+_, _-_, _*_, _≤_, _<_}
 use native.Mathlib.Nat.{not-suc-le-zero, le-of-suc-le-suc}
 use native.Mathlib.Omega.{arith}
 use borrow.Author.Tests.{leb-true, leb-false}
 use lib.Dec.{leb}
-use lib.ListN.{length, take}
+use lib.ListN.{length, getD, take}
 use lib.Seq.{length-take-le}
 use Rattle.words.proofs.Below.{by-test}
 use Rattle.catalogue.specs.Plain.{Row}
+use Rattle.catalogue.specs.Places.{rowSeen}
 use Rattle.columns.specs.declared.Column.{Column}
-use Rattle.rows.specs.Page.{blocks, allBlocks, Fits, returned}
+use Rattle.rows.specs.Page.{rowsAt, blocks, allBlocks, Fits, returned}
 use Rattle.rows.specs.Ready.{needed}
-use Rattle.rows.proofs.Steps.{needs-are}
+use Rattle.rows.proofs.Steps.{needs-are, returned-full, returned-more}
 
 module _ (width : ℕ) (columns : List Column) where
   at-most-asked : (asked room : ℕ) (rows : List Row) → returned width columns asked room rows ≤ asked
@@ -75,3 +77,30 @@ returned-is size from width columns asked rows h =
   where
     room : (k : ℕ) → k ≤ length rows → needed width columns (take k rows) ≡ k * width + allBlocks columns (take k rows)
     room k l = needs-are width columns (take k rows) ∙ ap (λ (n : ℕ). n * width + allBlocks columns (take k rows)) (length-take-le k rows l)
+
+-- the rows returned have room in the reply, which is what laying them wants
+pub returned-room : (size from width : ℕ) (columns : List Column) (asked : ℕ) (rows : List Row) → from ≤ size
+    → let k = returned width columns asked (size - from) rows in from + length (take k rows) * width + allBlocks columns (take k rows) ≤ size
+returned-room size from width columns asked rows h =
+    let g = returned-is size from width columns asked rows h in
+    rw (length-take-le (returned width columns asked (size - from) rows) rows (g .left)) (g .fits)
+
+-- the rows of the first k numbers are the first k rows
+pub rows-taken : (s places numbers : List ℕ) (k : ℕ) → rowsAt s places (take k numbers) ≡ take k (rowsAt s places numbers)
+rows-taken s places numbers zero = refl
+rows-taken s places [] (suc k) = refl
+rows-taken s places (n ∷ numbers) (suc k) = ap (λ rows. rowSeen s (getD places n 0) ∷ rows) (rows-taken s places numbers k)
+
+-- refusal 15: "a row is asked for and remains, but the first doesn't fit"
+pub none-returned : (size from width : ℕ) (columns : List Column) (asked : ℕ) (r : Row) (rows : List Row) → from ≤ size → 0 < asked
+    → (returned width columns asked (size - from) (r ∷ rows) ≡ 0) ↔ (size < from + (width + blocks columns r))
+none-returned size from width columns asked r rows h a = (there, back)
+  where
+    there : returned width columns asked (size - from) (r ∷ rows) ≡ 0 → size < from + (width + blocks columns r)
+    there e =
+        by-test (leb (width + blocks columns r) (size - from))
+        (λ q. absurd (omega (arith, e, returned-more width columns asked (size - from) r rows a (leb-true (width + blocks columns r) (size - from) q))))
+        (λ q. omega (arith, leb-false (width + blocks columns r) (size - from) q))
+
+    back : size < from + (width + blocks columns r) → returned width columns asked (size - from) (r ∷ rows) ≡ 0
+    back l = returned-full width columns asked (size - from) r rows (omega arith)

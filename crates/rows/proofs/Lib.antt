@@ -1,5 +1,5 @@
 pub mod Steps
-pub mod Bounds
+pub mod Found
 pub mod Parts
 pub mod Bound
 pub mod Whole
@@ -8,3 +8,7 @@ pub mod Vectors
 pub mod Spans
 pub mod Lie
 pub mod Reply
+pub mod Pick
+pub mod Inner
+pub mod ReadBack
+pub mod Head

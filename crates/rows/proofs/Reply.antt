@@ -76,9 +76,6 @@ module _ (size from width base status : ℕ) (columns : List Column) (rows : Lis
           (rows-lie base width columns (good width columns fits) rows from size needed-fits)
 
   module _ (t : List ℕ) (long : size ≤ length t) where
-    abbrev reply : List ℕ
-    reply = page size from width base status columns rows t
-
     in-buffer : Each (Inside (length (cleared size t))) (pageSpans size from width base status columns rows)
     in-buffer =
         each-map (Inside size) (Inside (length (cleared size t))) (pageSpans size from width base status columns rows)

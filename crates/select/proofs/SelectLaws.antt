@@ -66,7 +66,7 @@ unfolding numbersFrom
 left-from tree s i told h e = rw (drop-cons (places s) i 0 h, ← e, add-one)
 
 -- no check counts more rows than there may be
-rows-few : (s : List ℕ) → checked s .rows ≤ rowsMost
+pub rows-few : (s : List ℕ) → checked s .rows ≤ rowsMost
 unfolding checked
 rows-few s = by-test (leb (length s) bytesMost) (λ q. rw q (go (readingAt rowsMost s 0) refl)) (λ q. rw q (omega arith))
   where

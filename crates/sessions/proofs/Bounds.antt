@@ -27,7 +27,7 @@ greatest rows r zero i e = rw same (omega arith)
     same = omega arith
 greatest rows r (suc left) i e = omega (arith, r i (omega arith), greatest rows r left (i + 1) (omega arith))
 
-every-shown : {A : Type 0} (test : A → Bool) (l : List A) (d : A) → ((k : ℕ) → k < length l → test (getD l k d) ≡ true) → every test l ≡ true
+pub every-shown : {A : Type 0} (test : A → Bool) (l : List A) (d : A) → ((k : ℕ) → k < length l → test (getD l k d) ≡ true) → every test l ≡ true
 unfolding every
 every-shown test [] d f = refl
 every-shown test (a ∷ l) d f = both-true (test a) (every test l) (f 0 (omega arith)) (every-shown test l d (λ k h. f (suc k) (omega arith)))

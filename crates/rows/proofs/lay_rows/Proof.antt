@@ -10,7 +10,7 @@ use Rattle.columns.specs.Column.{columnAt, columnsOf}
 use Rattle.spans.specs.Laid.{lays}
 use Rattle.rows.specs.Page.{rowsAt, rowsSpans}
 use Rattle.rows.specs.Ready.{needed}
-use Rattle.rows.proofs.Bounds.{column-in}
+use Rattle.rows.proofs.Bound.{column-in}
 use Rattle.rows.proofs.Steps.{needs-step, rows-step, rows-end}
 
 abbrev Inv-loop : tie.InvT-loop

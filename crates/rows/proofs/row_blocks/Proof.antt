@@ -12,7 +12,7 @@ use Rattle.cells.specs.Cell.{blockRoom}
 use Rattle.cells.proofs.Fields.{stand-small}
 use Rattle.rows.specs.Page.{blocks}
 use Rattle.rows.specs.Ready.{blockMost}
-use Rattle.rows.proofs.Bounds.{room-small, fields-stand, fields-row}
+use Rattle.rows.proofs.Found.{room-small, fields-stand, fields-row}
 use Rattle.rows.proofs.Steps.{blocks-more, blocks-none}
 
 abbrev Inv-loop : tie.InvT-loop

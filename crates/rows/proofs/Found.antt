@@ -1,9 +1,8 @@
--- How large a block is at most, and where fit columns lie. Assumes nothing.
+-- The fields found at a place: they stand in the catalogue, are those of its row, and their blocks are small. Assumes nothing.
 use mathlib.Core.Path.{_≡_, ap, _∙_}
 use mathlib.Core.List.{List}
-use Prim.Native.Nat.{ℕ, _+_, _≤_}
+use Prim.Native.Nat.{ℕ, _≤_}
 use native.Mathlib.Omega.{arith}
-use lib.ListN.{length}
 use Rattle.words.proofs.Below.{by-test}
 use Rattle.catalogue.specs.Places.{rowOf, rowSeen}
 use Rattle.catalogue.specs.declared.Fields.{Fields}
@@ -11,7 +10,7 @@ use Rattle.columns.specs.Fit.{isUsed}
 use Rattle.columns.specs.declared.Column.{Column}
 use Rattle.cells.specs.Field.{fieldAt, fieldSeen}
 use Rattle.cells.specs.Cell.{blockSize, blockRoom}
-use Rattle.cells.specs.Stands.{FieldsStand, FieldStands, fieldsSeen, ColumnIn}
+use Rattle.cells.specs.Stands.{FieldsStand, FieldStands, fieldsSeen}
 use Rattle.cells.specs.declared.FieldAt.{FieldAt}
 use Rattle.cells.specs.declared.FieldAt.the-variants.{NumberIs, TextIs, Absent}
 use Rattle.cells.proofs.Fields.{field-seen, field-stands, seen-stand, seen-row}
@@ -28,16 +27,6 @@ room-small s f c h =
     by-test (isUsed (c .value .used))
     (λ q. rw (q, ← (field-seen s (c .property) f)) (block-small s (fieldAt (c .property) f) (field-stands s (c .property) f h)))
     (λ q. rw q (omega arith))
-
--- a row of a width that lies in n bytes has its columns there
-pub column-in : (width n row : ℕ) (c : Column) → row + width ≤ n → ColumnIn width 0 c → ColumnIn n row c
-column-in width n row c h i =
-    record {
-      typed = i .typed;
-      value = λ u. omega (arith, i .value u);
-      status = λ u. omega (arith, i .status u);
-      length = λ u. omega (arith, i .length u);
-    }
 
 -- the fields that were found at a place
 module _ (s : List ℕ) (at : ℕ) (f : Fields) (is : f ≡ fieldsSeen s at) where
