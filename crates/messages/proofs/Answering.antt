@@ -1,25 +1,20 @@
 -- The ways that a message on its seat can go: refused, or done. Assumes nothing.
-use mathlib.Core.Path.{_≡_, refl, sym, ap, ap₂, subst, _∙_}
-use mathlib.Core.Bool.{Bool, true, false, not}
-use mathlib.Core.List.{List, [], _∷_, _++_, append-assoc}
+use mathlib.Core.Path.{_≡_, refl, ap, subst, _∙_}
+use mathlib.Core.List.{List, _++_}
 use mathlib.Core.Option.{Option, none, some}
-use Prim.Native.Nat.{ℕ, _+_, _≤_, _<_}
+use Prim.Native.Nat.{ℕ}
 use native.Mathlib.Nat.{zero-add}
 use native.Mathlib.Omega.{arith}
-use borrow.Author.Tests.{eq-eqb, ne-eqb}
-use lib.Dec.{eqb}
-use lib.ListN.{length, getD, take, drop}
-use Rattle.words.specs.Below.{pick}
+use borrow.Author.Tests.{ne-eqb}
+use lib.ListN.{length, getD, drop}
 use Rattle.words.specs.Word.{le}
-use Rattle.words.proofs.Below.{by-test}
 use Rattle.spans.specs.Laid.{lay, fourWords}
-use Rattle.sessions.specs.Layout.{seatSize, connectedAt}
+use Rattle.sessions.specs.Layout.{connectedAt}
 use Rattle.sessions.specs.Seat.{Seat, seatBlock, seatIn, seatOf}
-use Rattle.sessions.specs.Well.{seatWell}
 use Rattle.sessions.specs.Fits.{CursorOk, SeatOk}
 use Rattle.sessions.proofs.Seats.{seat-back}
 use Rattle.messages.specs.Refusal.{firstCause, statusOf}
-use Rattle.messages.specs.Message.{SeatOutcome, msgOf, kindOf, gateCauses, bodyCauses, bodyOf, seatCauses, refusedOn, doneOn, doneBy, seatMessage}
+use Rattle.messages.specs.Message.{msgOf, gateCauses, bodyCauses, bodyOf, seatCauses, refusedOn, doneOn, doneBy, seatMessage}
 use Rattle.messages.specs.Answers.{Given, Admitted, Answers}
 use Rattle.messages.specs.declared.Answered.{Answered}
 use Rattle.messages.proofs.First.{Numbered, first-stop, first-go}

@@ -1,13 +1,12 @@
 -- Setting bindings: the causes of its body, and what it leaves where none applies. Assumes nothing.
-use mathlib.Core.Path.{_≡_, refl, sym, ap, ap₂, subst, _∙_}
-use mathlib.Core.Bool.{Bool, true, false, not}
-use mathlib.Core.List.{List, [], _∷_, _++_}
+use mathlib.Core.Path.{_≡_, refl, sym, ap, ap₂, _∙_}
+use mathlib.Core.Bool.{true, false}
+use mathlib.Core.List.{List, _++_}
 use mathlib.Core.Option.{Option, none, some}
-use Prim.Native.Nat.{ℕ, _+_, _-_, _≤_}
+use Prim.Native.Nat.{ℕ, _-_}
 use native.Mathlib.Omega.{arith}
-use borrow.Author.Tests.{eq-eqb, ne-eqb, eqb-true}
 use lib.Dec.{leb, eqb}
-use lib.ListN.{length, getD, take, drop, set}
+use lib.ListN.{length, take, drop, set}
 use lib.Seq.{take-at, drop-at, take-all}
 use Rattle.words.specs.Below.{pick}
 use Rattle.words.specs.Word.{numberAt, le}
@@ -23,14 +22,13 @@ use Rattle.bindings.specs.declared.BindingsRead.{BindingsRead}
 use Rattle.bindings.proofs.Agree.{bindings-agree}
 use Rattle.spans.specs.Laid.{lay, fourWords}
 use Rattle.sessions.specs.Layout.{cursorSize, cursorPlace, part, put}
-use Rattle.sessions.specs.Seat.{Cursor, Seat, cursorBlock, seatBlock, seatIn, seatOf, cursorIn, withCursor, rebound}
+use Rattle.sessions.specs.Seat.{Cursor, Seat, cursorBlock, seatBlock, seatIn, seatOf, cursorIn, rebound}
 use Rattle.sessions.specs.Fits.{CursorOk}
 use Rattle.sessions.proofs.Seats.{cursor-block}
 use Rattle.sessions.proofs.Writes.{rebound-block}
 use Rattle.messages.specs.Refusal.{firstCause}
-use Rattle.messages.specs.Message.{SeatOutcome, msgOf, handleOf, isOpen, bodyCauses, boundTo, reboundAt, doneOn, seatMessage}
-use Rattle.messages.specs.Answers.{Given, Admitted, Answers}
-use Rattle.messages.specs.declared.Answered.{Answered}
+use Rattle.messages.specs.Message.{handleOf, isOpen, bodyCauses, boundTo, reboundAt, doneOn, seatMessage}
+use Rattle.messages.specs.Answers.{Admitted, Answers}
 use Rattle.messages.proofs.Answering.{lay-front, seat-is, seat-fits, body-done}
 use Rattle.messages.proofs.Bodies.{put-handle}
 

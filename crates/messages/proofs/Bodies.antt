@@ -1,28 +1,25 @@
 -- Each kind of message: the causes of its body, and what it leaves where none applies. Assumes nothing.
-use mathlib.Core.Path.{_≡_, refl, sym, ap, ap₂, subst, _∙_}
-use mathlib.Core.Bool.{Bool, true, false, not}
-use mathlib.Core.List.{List, [], _∷_, _++_, append-assoc}
+use mathlib.Core.Path.{_≡_, refl, sym, ap, ap₂, _∙_}
+use mathlib.Core.Bool.{true, false}
+use mathlib.Core.List.{List, _++_, append-assoc}
 use mathlib.Core.Option.{Option, none, some}
-use Prim.Native.Nat.{ℕ, _+_, _≤_, _<_}
-use native.Mathlib.Omega.{arith}
+use Prim.Native.Nat.{ℕ, _+_}
 use borrow.Author.Tests.{eq-eqb, ne-eqb}
 use lib.Dec.{eqb}
-use lib.ListN.{length, getD, take, drop}
+use lib.ListN.{length, drop}
 use lib.Seq.{take-at, drop-append-add, drop-drop}
-use Rattle.words.specs.Below.{pick}
 use Rattle.words.specs.Word.{le}
 use Rattle.words.proofs.Below.{by-test}
 use Rattle.words.proofs.Options.{some-is}
 use Rattle.spans.specs.Laid.{lay, fourWords}
-use Rattle.sessions.specs.Layout.{seatSize, cursorSize, cursorPlace, put}
+use Rattle.sessions.specs.Layout.{cursorSize, cursorPlace, put}
 use Rattle.sessions.specs.Seat.{Cursor, Seat, zeros, cursorBlock, seatBlock, seatIn, seatOf, cursorIn, withCursor}
 use Rattle.sessions.specs.Fits.{CursorOk, SeatOk}
 use Rattle.sessions.proofs.Seats.{cursor-block, seat-block}
 use Rattle.sessions.proofs.Writes.{first-put, second-put}
 use Rattle.messages.specs.Refusal.{firstCause}
-use Rattle.messages.specs.Message.{SeatOutcome, msgOf, handleOf, isOpen, stillOpen, freed, bodyCauses, doneOn, seatMessage}
-use Rattle.messages.specs.Answers.{Given, Admitted, Answers}
-use Rattle.messages.specs.declared.Answered.{Answered}
+use Rattle.messages.specs.Message.{handleOf, isOpen, stillOpen, freed, bodyCauses, doneOn, seatMessage}
+use Rattle.messages.specs.Answers.{Admitted, Answers}
 use Rattle.messages.proofs.Answering.{lay-front, seat-is, seat-fits, body-done}
 
 -- a cursor put under a handle is that of the seat with the cursor

@@ -1,18 +1,18 @@
 -- The kind of a message, and refusals 6 to 8. Assumes nothing.
-use mathlib.Core.Path.{_≡_, refl, sym, ap, _∙_}
-use mathlib.Core.Bool.{Bool, true, false, not}
-use mathlib.Core.List.{List, [], _∷_}
+use mathlib.Core.Path.{_≡_, sym, _∙_}
+use mathlib.Core.Bool.{Bool, true, false}
+use mathlib.Core.List.{List}
 use mathlib.Core.Option.{Option, none, some}
 use Prim.Native.Nat.{ℕ, suc, _+_, _-_, _*_, _≤_, _<_}
 use native.Mathlib.Omega.{arith}
 use borrow.Author.Tests.{eq-eqb, ne-eqb, lt-ltb, le-ltb, ltb-true, ltb-false, le-leb, lt-leb}
-use lib.Dec.{leb, ltb, eqb}
+use lib.Dec.{ltb, eqb}
 use lib.ListN.{length, getD}
-use Rattle.words.specs.Below.{pick, both}
+use Rattle.words.specs.Below.{pick}
 use Rattle.words.specs.Word.{numberAt}
 use Rattle.words.specs.Checksum.{checksum, checksumTold}
 use Rattle.words.proofs.Below.{by-test}
-use Rattle.sessions.specs.Seat.{Seat, seatIn, seatOf}
+use Rattle.sessions.specs.Seat.{Seat, seatOf}
 use Rattle.messages.specs.Refusal.{firstCause}
 use Rattle.messages.specs.Message.{messageTable, kinds, kindFrom, kindOf, served, tested, msgOf, checksumWrong, gateCauses}
 

@@ -8,12 +8,11 @@ use native.Mathlib.Nat.{add-zero}
 use native.Mathlib.Omega.{arith}
 use borrow.Author.Tests.{eq-eqb, ne-eqb}
 use lib.Dec.{eqb}
-use lib.ListN.{length, getD, take, drop}
+use lib.ListN.{getD, drop}
 use lib.Seq.{getD-take, getD-drop}
-use Rattle.words.specs.Below.{pick}
-use Rattle.words.proofs.Below.{by-test, true≢false}
+use Rattle.words.proofs.Below.{by-test}
 use Rattle.sessions.specs.Layout.{seatSize, cursorSize, firstAt, secondAt, cursorPlace, part, put}
-use Rattle.sessions.specs.Seat.{Cursor, Seat, cursorBlock, cursorOf, cursorIn, seatIn}
+use Rattle.sessions.specs.Seat.{Cursor, Seat, cursorOf, cursorIn, seatIn}
 use Rattle.messages.specs.Message.{isOpen, openCount, stillOpen}
 
 open-is : (b : List ℕ) (at : ℕ) → isOpen (cursorOf (part b at cursorSize)) ≡ not (eqb (getD b at 0) 0)

@@ -1,14 +1,13 @@
 -- Whatever a message does, it leaves its seat fit and its row numbers where they were. Assumes nothing.
-use mathlib.Core.Path.{_≡_, refl, sym, ap, _∙_}
-use mathlib.Core.Bool.{Bool, true, false, not}
-use mathlib.Core.List.{List, [], _∷_, _++_}
+use mathlib.Core.Path.{_≡_, refl}
+use mathlib.Core.Bool.{true, false, not}
+use mathlib.Core.List.{List, [], _∷_}
 use mathlib.Core.Logic.{inr}
 use mathlib.Core.Option.{Option, none, some}
 use Prim.Native.Nat.{ℕ}
 use native.Mathlib.Omega.{arith}
 use borrow.Author.Tests.{eqb-true}
 use lib.Dec.{eqb}
-use Rattle.words.specs.Below.{pick, both}
 use Rattle.words.proofs.Below.{by-test, true≢false, both-left, both-right, both-true}
 use Rattle.columns.specs.Each.{every}
 use Rattle.columns.specs.Fit.{fit}
@@ -19,10 +18,9 @@ use Rattle.sessions.specs.Seat.{Cursor, Seat, cursorIn, withCursor, rebound}
 use Rattle.sessions.specs.Well.{tidy, cursorBelow, seatBelow}
 use Rattle.sessions.specs.Fits.{CursorFits, CursorOk, SeatOk}
 use Rattle.messages.specs.Refusal.{firstCause}
-use Rattle.messages.specs.Message.{msgOf, kindOf, handleOf, gateCauses, isOpen, bodyCauses, bodyOf, seatCauses, unread, unfit, boundTo, doneOn, doneBy, refusedOn, seatMessage}
+use Rattle.messages.specs.Message.{msgOf, kindOf, handleOf, gateCauses, isOpen, bodyCauses, bodyOf, seatCauses, unread, unfit, boundTo, doneOn, seatMessage}
 use Rattle.messages.proofs.First.{first-both}
 use Rattle.messages.proofs.Answering.{gate-numbered}
-use Rattle.messages.proofs.Bodies.{with-fits}
 use Rattle.messages.proofs.Tidy.{bindings-tidy}
 
 -- what holds of each cursor of a seat

@@ -1,5 +1,5 @@
 -- The columns that a body was read to have flags of 0 or 1, and zero under a flag of 0. Assumes nothing.
-use mathlib.Core.Path.{_≡_, refl, sym, ap, subst, _∙_}
+use mathlib.Core.Path.{_≡_, refl, subst}
 use mathlib.Core.Bool.{Bool, true, false}
 use mathlib.Core.List.{List, [], _∷_}
 use mathlib.Core.Option.{Option, none, some}
@@ -8,7 +8,7 @@ use native.Mathlib.Omega.{arith}
 use borrow.Author.Tests.{eq-eqb, eqb-false, leb-true}
 use lib.Dec.{leb, eqb}
 use lib.ListN.{length}
-use Rattle.words.specs.Below.{pick, both}
+use Rattle.words.specs.Below.{pick}
 use Rattle.words.proofs.Below.{by-test, both-true}
 use Rattle.words.proofs.Options.{none≢some, some-is}
 use Rattle.words.specs.Checksum.{headerSize}

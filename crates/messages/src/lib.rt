@@ -1,16 +1,13 @@
 // What a message does to its seat: refusals from 6 on, and the messages that send no rows.
 ghost use mathlib.Core.Path.{_≡_};
-ghost use mathlib.Core.Bool.{true};
-ghost use mathlib.Core.List.{_++_};
-ghost use mathlib.Core.Option.{none, some};
+ghost use mathlib.Core.Option.{none};
 ghost use Prim.Native.Nat.{_+_, _*_, _≤_, _<_};
-ghost use lib.ListN.{length, drop};
+ghost use lib.ListN.{length};
 ghost use Rattle.spans.specs.Laid.{lay, fourWords};
 ghost use Rattle.sessions.specs.Layout.{seatSize, cursorSize, cursorPlace, recordsSize, put};
 ghost use Rattle.sessions.specs.Seat.{cursorBlock, cursorIn, seatIn, seatOf};
-ghost use Rattle.sessions.specs.Well.{seatWell};
 ghost use Rattle.messages.specs.Refusal.{firstCause, statusOf};
-ghost use Rattle.messages.specs.Message.{kinds, kindFrom, kindOf, tested, msgOf, gateCauses, isOpen, stillOpen, seatMessage, reboundAt};
+ghost use Rattle.messages.specs.Message.{kinds, kindOf, tested, msgOf, gateCauses, isOpen, stillOpen, seatMessage, reboundAt};
 ghost use Rattle.messages.specs.Answers.{Given, Admitted, Answers};
 
 // The answer to a message: the refusal number, else 0, and the count of reply bytes.

@@ -1,21 +1,17 @@
 -- Opening a query on a seat: the lowest free handle, refusals 7, 14 and 16, and the cursor that is opened. Assumes nothing.
-use mathlib.Core.Path.{_≡_, refl, sym, ap, ap₂, subst, _∙_}
-use mathlib.Core.Bool.{Bool, true, false, not}
-use mathlib.Core.List.{List, [], _∷_, _++_, map}
+use mathlib.Core.Path.{_≡_, refl, sym, ap, ap₂, _∙_}
+use mathlib.Core.Bool.{true, false}
+use mathlib.Core.List.{List, _++_, map}
 use mathlib.Core.Option.{Option, none, some}
-use Prim.Native.Nat.{ℕ, zero, suc, _+_, _-_, _≤_, _<_}
+use Prim.Native.Nat.{ℕ, zero, suc, _-_, _≤_}
 use native.Mathlib.Nat.{sub-zero}
 use native.Mathlib.Omega.{arith}
 use borrow.Author.Tests.{eq-eqb, ne-eqb}
-use lib.Dec.{eqb}
 use lib.ListN.{length, getD, take, drop, set, length-append, length-map, length-replicate}
-use Rattle.words.specs.Below.{pick}
 use Rattle.words.proofs.Options.{some-is}
-use Rattle.catalogue.specs.Limits.{rowsMost}
 use Rattle.catalogue.specs.Plain.{Row, catalogue}
-use Rattle.catalogue.specs.Places.{checked, places, rowSeen}
-use Rattle.catalogue.specs.declared.Checked.{Checked}
-use Rattle.catalogue.proofs.Agree.{accepted, catalogue-agrees}
+use Rattle.catalogue.specs.Places.{places, rowSeen}
+use Rattle.catalogue.proofs.Agree.{catalogue-agrees}
 use Rattle.restriction.specs.Tree.{Tree}
 use Rattle.restriction.specs.Holds.{holds}
 use Rattle.restriction.specs.Reader.{restriction}
@@ -32,7 +28,6 @@ use Rattle.messages.specs.Refusal.{firstCause}
 use Rattle.messages.specs.Message.{isOpen}
 use Rattle.opening.specs.Open.{freeHandle, openCauses}
 use Rattle.opening.specs.Answer.{handleFor, Judged}
-use Rattle.opening.specs.declared.Opened.{Opened}
 
 -- the lowest free handle
 pub free-first : (s : Seat) → isOpen (s .first) ≡ false → freeHandle s ≡ 1
@@ -73,42 +68,42 @@ module _ (b tree : List ℕ) where
         → Judged (seatOf b) tree (record { refusal = 0; handle = handle })
     unfolding firstCause
     open-free handle h e f =
-        record
-        { refused =
-            sym
-            (ap (λ (s : Option Seat). firstCause (openCauses s tree)) held
-            ∙ rw (ne-eqb (freeHandle (seatIn b)) 0 (λ z. e (h ∙ z)), f))
-        ; given = λ w. h ∙ sym (ap handleFor held)
-        ; none-given = λ w. absurd (w refl)
+        record {
+          refused =
+              sym
+              (ap (λ (s : Option Seat). firstCause (openCauses s tree)) held
+              ∙ rw (ne-eqb (freeHandle (seatIn b)) 0 (λ z. e (h ∙ z)), f));
+          given = λ w. h ∙ sym (ap handleFor held);
+          none-given = λ w. absurd (w refl);
         }
 
 -- a selection has at most as many rows as there is room for
 pub rows-most : (s : List ℕ) (rows : ℕ) (noted : List ℕ) (found : List Row) → Noted s rows noted → catalogue s ≡ some found → length found ≡ rows
 rows-most s rows noted found n e =
     ap length (sym (some-is (sym seen ∙ e))) ∙ length-map (places s) (rowSeen s) ∙ Laws.counted s rows noted n
-    where
-      seen : catalogue s ≡ some (map (rowSeen s) (places s))
-      seen = catalogue-agrees s ∙ rw (n .well)
+  where
+    seen : catalogue s ≡ some (map (rowSeen s) (places s))
+    seen = catalogue-agrees s ∙ rw (n .well)
 
 pub selected-few : (tree s : List ℕ) (rows : ℕ) (noted : List ℕ) → Noted s rows noted → length (selected tree s) ≤ rowsSize
 selected-few tree s rows noted n = go (restriction tree) (catalogue s) refl
-    where
-      go : (t : Option Tree) (found : Option (List Row)) → catalogue s ≡ found → length (selectedBy t found) ≤ rowsSize
-      go none found e = omega arith
-      go (some t) none e = omega arith
-      go (some t) (some found) e =
-          omega (arith, numbers-few 0 (holds t) found, rows-most s rows noted found n e, Laws.few s rows noted n)
+  where
+    go : (t : Option Tree) (found : Option (List Row)) → catalogue s ≡ found → length (selectedBy t found) ≤ rowsSize
+    go none found e = omega arith
+    go (some t) none e = omega arith
+    go (some t) (some found) e =
+        omega (arith, numbers-few 0 (holds t) found, rows-most s rows noted found n e, Laws.few s rows noted n)
 
 drop-zeros : (k n : ℕ) → drop k (zeros n) ≡ zeros (n - k)
 drop-zeros zero n = ap zeros (sym (sub-zero n))
 drop-zeros (suc k) zero = ap zeros none-left
-    where
-      none-left : 0 ≡ 0 - suc k
-      none-left = omega arith
+  where
+    none-left : 0 ≡ 0 - suc k
+    none-left = omega arith
 drop-zeros (suc k) (suc n) = drop-zeros k n ∙ ap zeros less
-    where
-      less : n - k ≡ suc n - suc k
-      less = omega arith
+  where
+    less : n - k ≡ suc n - suc k
+    less = omega arith
 
 pub closed-length : (b : List ℕ) → b ≡ cursorBlock none → length b ≡ cursorSize
 closed-length b e = ap length e ∙ length-replicate {A = ℕ} cursorSize 0
@@ -120,7 +115,7 @@ module _ (b selection into : List ℕ) (e : b ≡ cursorBlock none) (h : length 
   into-is =
       l
       ∙ ap (λ (x : List ℕ). selection ++ x)
-        (ap (λ (x : List ℕ). drop (length selection) (take rowsSize (drop 50 x))) e ∙ drop-zeros (length selection) rowsSize)
+      (ap (λ (x : List ℕ). drop (length selection) (take rowsSize (drop 50 x))) e ∙ drop-zeros (length selection) rowsSize)
 
   pub filled-length : length (put b 50 rowsSize into) ≡ cursorSize
   filled-length =

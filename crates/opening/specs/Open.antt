@@ -9,7 +9,7 @@ use Rattle.catalogue.specs.Plain.{Row}
 use Rattle.restriction.specs.Reader.{restriction}
 use Rattle.restriction.specs.Answer.{isTree}
 use Rattle.select.specs.Select.{selectedBy}
-use Rattle.sessions.specs.Seat.{Cursor, Seat, withCursor, opened}
+use Rattle.sessions.specs.Seat.{Seat, withCursor, opened}
 use Rattle.messages.specs.Message.{isOpen}
 
 -- "the lowest free handle"; 0 where "both handles of the seat [are] open"

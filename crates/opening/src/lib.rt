@@ -1,8 +1,7 @@
 // What opening a query does to its seat.
 ghost use mathlib.Core.Path.{_≡_};
 ghost use mathlib.Core.Option.{none, some};
-ghost use Prim.Native.Nat.{_≤_};
-ghost use lib.ListN.{length, getD};
+ghost use lib.ListN.{length};
 ghost use Rattle.sessions.specs.Layout.{seatSize, cursorSize, cursorPlace, part, put};
 ghost use Rattle.sessions.specs.Seat.{cursorBlock, seatIn, seatOf, opened};
 ghost use Rattle.select.specs.Select.{selected};

@@ -1,16 +1,14 @@
 -- Laws of causes in their order, and of the three that every call begins with. Assumes nothing.
-use mathlib.Core.Path.{_≡_, refl, sym, ap, _∙_}
-use mathlib.Core.Bool.{Bool, true, false, not}
-use mathlib.Core.List.{List, [], _∷_, _++_, map}
-use mathlib.Core.Option.{Option, none, some}
+use mathlib.Core.Path.{_≡_, sym, ap, _∙_}
+use mathlib.Core.Bool.{true, false}
+use mathlib.Core.List.{List}
 use Prim.Native.Nat.{ℕ, _≤_, _<_}
 use native.Mathlib.Omega.{arith}
 use borrow.Author.Tests.{lt-ltb, le-ltb, ltb-false, eq-eqb, ne-eqb}
-use lib.Dec.{ltb, eqb}
-use lib.ListN.{length, length-map}
-use Rattle.words.specs.Below.{pick}
-use Rattle.words.proofs.Below.{by-test, true≢false}
-use Rattle.catalogue.specs.Plain.{Row, catalogue}
+use lib.Dec.{ltb}
+use lib.ListN.{length-map}
+use Rattle.words.proofs.Below.{by-test}
+use Rattle.catalogue.specs.Plain.{catalogue}
 use Rattle.catalogue.specs.Places.{checked, places, noted, rowSeen}
 use Rattle.catalogue.proofs.Agree.{accepted, catalogue-agrees, rows-counted}
 use Rattle.sessions.specs.Layout.{seats}

@@ -1,12 +1,11 @@
 -- The ways that connecting can go. Assumes nothing.
-use mathlib.Core.Path.{_≡_, refl, sym, ap, _∙_}
-use mathlib.Core.Bool.{Bool, true, false}
-use mathlib.Core.List.{List, [], _∷_, _++_}
+use mathlib.Core.Path.{_≡_, sym, ap, _∙_}
+use mathlib.Core.Bool.{true, false}
+use mathlib.Core.List.{List, [], _∷_}
 use mathlib.Core.Option.{some}
 use Prim.Native.Nat.{ℕ}
 use native.Mathlib.Omega.{arith}
-use borrow.Author.Tests.{eq-eqb, ne-eqb}
-use lib.Dec.{eqb}
+use borrow.Author.Tests.{ne-eqb}
 use Rattle.sessions.specs.Seat.{fresh}
 use Rattle.messages.specs.Refusal.{firstCause}
 use Rattle.server.specs.Step.{Sources, Outcome, Keeps, quiet, judging, seatHeld, isConnected, seated, connectCauses, connectStep}

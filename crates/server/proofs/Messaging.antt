@@ -1,23 +1,19 @@
 -- The ways that a message can go: refused before its seat is looked at, or answered by its seat. Assumes nothing.
-use mathlib.Core.Path.{_≡_, refl, sym, ap, _∙_}
-use mathlib.Core.Bool.{Bool, true, false, not}
-use mathlib.Core.List.{List, [], _∷_, _++_}
-use mathlib.Core.Option.{Option}
+use mathlib.Core.Path.{_≡_, refl, _∙_}
+use mathlib.Core.Bool.{false}
+use mathlib.Core.List.{List, _++_}
 use Prim.Native.Nat.{ℕ, _+_, _-_, _≤_, _<_}
 use native.Mathlib.Omega.{arith}
-use borrow.Author.Tests.{eq-eqb, ne-eqb, lt-ltb, le-ltb, le-leb, lt-leb}
-use lib.Dec.{leb, ltb, eqb}
-use lib.ListN.{length, drop}
-use Rattle.words.specs.Below.{pick, both}
+use borrow.Author.Tests.{ne-eqb, lt-ltb, le-ltb, le-leb, lt-leb}
+use lib.ListN.{length}
 use Rattle.words.specs.Checksum.{messageSized}
-use Rattle.words.proofs.Below.{by-test}
-use Rattle.sessions.specs.Layout.{seats, seatSize, seatAt, put}
+use Rattle.sessions.specs.Layout.{seatSize, seatAt, put}
 use Rattle.messages.specs.Refusal.{firstCause}
 use Rattle.messages.specs.Message.{seatMessage}
 use Rattle.messages.specs.Answers.{Answers}
 use Rattle.messages.specs.declared.Answered.{Answered}
 use Rattle.messages.proofs.First.{first-stop, first-go}
-use Rattle.server.specs.Step.{Sources, Outcome, Keeps, quiet, judging, seatHeld, seated, sizing, onSeat, messageStep}
+use Rattle.server.specs.Step.{Sources, Keeps, judging, seatHeld, sizing, messageStep}
 use Rattle.server.proofs.Causes.{judging-numbered}
 use Rattle.server.proofs.Seating.{seated-is}
 

@@ -1,15 +1,14 @@
 -- The ways that opening can go. Assumes nothing.
 use mathlib.Core.Path.{_≡_, refl, sym, ap, subst, _∙_}
-use mathlib.Core.Bool.{Bool, true, false}
-use mathlib.Core.List.{List, [], _∷_, _++_}
+use mathlib.Core.Bool.{true, false}
+use mathlib.Core.List.{List, [], _++_}
 use mathlib.Core.Option.{Option, none, some}
 use Prim.Native.Nat.{ℕ, _≤_, _<_}
 use native.Mathlib.Omega.{arith}
 use borrow.Author.Tests.{eq-eqb, ne-eqb, eqb-true, eqb-false}
-use lib.ListN.{length, take, drop}
+use lib.ListN.{length, take}
 use lib.Seq.{take-at, drop-at, take-all}
 use lib.Dec.{eqb}
-use Rattle.words.specs.Below.{pick}
 use Rattle.words.proofs.Below.{by-test, true≢false}
 use Rattle.catalogue.specs.Limits.{rowsMost}
 use Rattle.catalogue.specs.Plain.{catalogue}
@@ -26,7 +25,7 @@ use Rattle.messages.specs.Refusal.{firstCause}
 use Rattle.messages.proofs.Bodies.{put-handle}
 use Rattle.messages.proofs.First.{first-stop, first-go}
 use Rattle.opening.specs.Open.{freeHandle, openCauses, openedOn}
-use Rattle.server.specs.Step.{Sources, Outcome, Keeps, quiet, rowsHold, judging, seatHeld, seated, openDone, openStep}
+use Rattle.server.specs.Step.{Sources, Keeps, rowsHold, judging, seatHeld, seated, openDone, openStep}
 use Rattle.server.specs.Judgement.{Judgement}
 use Rattle.server.specs.declared.Judged.{Judged}
 use Rattle.server.proofs.Causes.{judging-numbered, no-rows}
@@ -79,19 +78,19 @@ pub free-closed : (s : Seat) (handle : ℕ) → CursorOk (s .first) → CursorOk
 free-closed s handle f g e z =
     by-test (isOpen (s .first))
     (λ q.
-      by-test (isOpen (s .second))
-      (λ k. absurd (z (e ∙ rw (q, k))))
-      (λ k.
-        let two : handle ≡ 2 = e ∙ rw (q, k) in
-        ap (λ (h : ℕ). part (seatBlock (some s)) (cursorPlace h) cursorSize) two
-        ∙ ap (take cursorSize) (drop-at (cursorBlock (s .first)) (cursorBlock (s .second)) cursorSize (cursor-block (s .first) f .size))
-        ∙ take-all cursorSize (cursorBlock (s .second)) (omega (arith, cursor-block (s .second) g .size))
-        ∙ ap cursorBlock (closed (s .second) k)))
+    by-test (isOpen (s .second))
+    (λ k. absurd (z (e ∙ rw (q, k))))
+    (λ k.
+    let two : handle ≡ 2 = e ∙ rw (q, k) in
+    ap (λ (h : ℕ). part (seatBlock (some s)) (cursorPlace h) cursorSize) two
+    ∙ ap (take cursorSize) (drop-at (cursorBlock (s .first)) (cursorBlock (s .second)) cursorSize (cursor-block (s .first) f .size))
+    ∙ take-all cursorSize (cursorBlock (s .second)) (omega (arith, cursor-block (s .second) g .size))
+    ∙ ap cursorBlock (closed (s .second) k)))
     (λ q.
-      let one : handle ≡ 1 = e ∙ rw q in
-      ap (λ (h : ℕ). part (seatBlock (some s)) (cursorPlace h) cursorSize) one
-      ∙ take-at (cursorBlock (s .first)) (cursorBlock (s .second)) cursorSize (cursor-block (s .first) f .size)
-      ∙ ap cursorBlock (closed (s .first) q))
+    let one : handle ≡ 1 = e ∙ rw q in
+    ap (λ (h : ℕ). part (seatBlock (some s)) (cursorPlace h) cursorSize) one
+    ∙ take-at (cursorBlock (s .first)) (cursorBlock (s .second)) cursorSize (cursor-block (s .first) f .size)
+    ∙ ap cursorBlock (closed (s .first) q))
 
 -- a seat on which opening is not refused is connected, and its lowest free handle is 1 or 2
 pub open-seat : (held : Option Seat) (tree : List ℕ) → firstCause (openCauses held tree) ≡ 0 → (s : Seat) × (held ≡ some s) × (freeHandle s ≡ 0 → ⊥)

@@ -1,6 +1,6 @@
 -- Every call, accepted or refused, keeps a table that passes 2 and 3 passing. Assumes nothing.
 use mathlib.Core.Path.{_≡_, refl, sym, ap, subst, _∙_}
-use mathlib.Core.Bool.{Bool, true, false}
+use mathlib.Core.Bool.{true}
 use mathlib.Core.List.{List, [], _∷_, _++_, map}
 use mathlib.Core.Logic.{_⊎_, inl, ⊎-elim}
 use mathlib.Core.Option.{Option, none, some}
@@ -9,7 +9,6 @@ use native.Mathlib.Omega.{arith}
 use borrow.Author.Tests.{eqb-true, lt-ltb}
 use lib.Dec.{ltb, eqb}
 use lib.ListN.{length, getD, length-map}
-use Rattle.words.specs.Below.{pick, everyBelow}
 use Rattle.words.proofs.Below.{by-test, true≢false, both-left, both-right, both-true, every-at, every-shown}
 use Rattle.words.proofs.Options.{none≢some, some-is}
 use Rattle.catalogue.specs.Plain.{Row, catalogue}
@@ -23,7 +22,7 @@ use Rattle.restriction.proofs.Rising.{rises, rises-between}
 use Rattle.select.specs.Select.{selection, selectedBy}
 use Rattle.select.proofs.Selection.{numbers-few, numbers-rise}
 use Rattle.select.proofs.SelectLaws.{rows-few}
-use Rattle.sessions.specs.Layout.{seats, seatSize, blockOf}
+use Rattle.sessions.specs.Layout.{seats, blockOf}
 use Rattle.sessions.specs.Seat.{Cursor, Seat, seatBlock, seatOf, fresh, opened, withCursor}
 use Rattle.sessions.specs.Well.{tableWell, cursorBelow, seatBelow, tableBelow}
 use Rattle.sessions.specs.Fits.{CursorFits, SeatOk}
@@ -75,10 +74,10 @@ module _ (t : List ℕ) (w : tableWell t ≡ true) (seat : ℕ) (h : seat < seat
 seated-passes : (src : Sources) (t : List ℕ) → Passing src t → (seat : ℕ) → seat < seats → (s : Option Seat) → SeatOk s
     → ((rows : List Row) → src .rows ≡ some rows → tableBelow (length rows) t ≡ true → seatBelow (length rows) s ≡ true) → Passing src (seated t seat s)
 seated-passes src t p seat h s f b = record { well = seated-well t (p .well) seat h s f; holds = go (src .rows) refl (p .holds) }
-    where
-      go : (rows : Option (List Row)) → src .rows ≡ rows → rowsHold rows t ≡ true → rowsHold rows (seated t seat s) ≡ true
-      go none q e = absurd (true≢false (sym e))
-      go (some rows) q e = seated-below t (p .well) seat h s f (length rows) e (b rows q e)
+  where
+    go : (rows : Option (List Row)) → src .rows ≡ rows → rowsHold rows t ≡ true → rowsHold rows (seated t seat s) ≡ true
+    go none q e = absurd (true≢false (sym e))
+    go (some rows) q e = seated-below t (p .well) seat h s f (length rows) e (b rows q e)
 
 pub connect-passes : (src : Sources) (t : List ℕ) (seat version : ℕ) → Passing src t → Passing src (connectStep src t seat version .words)
 unfolding connectStep
@@ -107,11 +106,11 @@ rows-length : (s : List ℕ) (rows : List Row) → catalogue s ≡ some rows →
 rows-length s rows e =
     by-test (accepted s)
     (λ q.
-      let seen : catalogue s ≡ some (map (rowSeen s) (places s)) = catalogue-agrees s ∙ rw q in
-      ap length (sym (some-is (sym seen ∙ e))) ∙ length-map (places s) (rowSeen s) ∙ rows-counted s q)
+    let seen : catalogue s ≡ some (map (rowSeen s) (places s)) = catalogue-agrees s ∙ rw q in
+    ap length (sym (some-is (sym seen ∙ e))) ∙ length-map (places s) (rowSeen s) ∙ rows-counted s q)
     (λ q.
-      let seen : catalogue s ≡ none = catalogue-agrees s ∙ rw q in
-      absurd (none≢some (sym seen ∙ e)))
+    let seen : catalogue s ≡ none = catalogue-agrees s ∙ rw q in
+    absurd (none≢some (sym seen ∙ e)))
 
 -- a cursor on a selection fits, and its rows are below the catalogue's count
 selected-fits : (s : List ℕ) (tree : Option Tree) (rows : Option (List Row)) → catalogue s ≡ rows → CursorFits (opened (selectedBy tree rows))
@@ -121,12 +120,12 @@ selected-fits s none rows e =
 selected-fits s (some t) none e =
     record { position = omega arith; rows = omega arith; rising = λ i h. absurd (omega (arith, h)); bound = inl (refl, refl); tidied = refl }
 selected-fits s (some t) (some rows) e =
-    record
-    { position = omega arith
-    ; rows = omega (arith, numbers-few 0 (holds t) rows, rows-length s rows e, rows-few s)
-    ; rising = rises 0 (0 + length rows) (selection t rows) (numbers-rise 0 (holds t) rows)
-    ; bound = inl (refl, refl)
-    ; tidied = refl
+    record {
+      position = omega arith;
+      rows = omega (arith, numbers-few 0 (holds t) rows, rows-length s rows e, rows-few s);
+      rising = rises 0 (0 + length rows) (selection t rows) (numbers-rise 0 (holds t) rows);
+      bound = inl (refl, refl);
+      tidied = refl;
     }
 
 selected-below : (tree : Option Tree) (rows : List Row) → every (λ row. ltb row (length rows)) (selectedBy tree (some rows)) ≡ true
@@ -135,8 +134,8 @@ selected-below none rows = refl
 selected-below (some t) rows =
     each-shown (λ row. ltb row (length rows)) (selection t rows) 0
     (λ k h.
-      lt-ltb (getD (selection t rows) k 0) (length rows)
-      (omega (arith, rises-between 0 (0 + length rows) (selection t rows) (numbers-rise 0 (holds t) rows) k h .1)))
+    lt-ltb (getD (selection t rows) k 0) (length rows)
+    (omega (arith, rises-between 0 (0 + length rows) (selection t rows) (numbers-rise 0 (holds t) rows) k h .1)))
 
 with-below : (bound : ℕ) (s : Seat) (handle : ℕ) (o : Option Cursor) → seatBelow bound (some s) ≡ true → cursorBelow bound o ≡ true
     → seatBelow bound (some (withCursor s handle o)) ≡ true
@@ -150,20 +149,20 @@ unfolding openStep
 open-passes s t seat tree p =
     by-test (eqb (firstCause (judging (sourcesOf s) t seat ++ openCauses (seatHeld t seat) tree)) 0)
     (λ q.
-      let b = first-both (judging (sourcesOf s) t seat) (openCauses (seatHeld t seat) tree) (judging-numbered (sourcesOf s) t seat)
-          (eqb-true (firstCause (judging (sourcesOf s) t seat ++ openCauses (seatHeld t seat) tree)) 0 q) in
-      let h = passes (sourcesOf s) t seat (b .0) .seat-in in
-      rw q (done (seatHeld t seat) refl h))
+    let b = first-both (judging (sourcesOf s) t seat) (openCauses (seatHeld t seat) tree) (judging-numbered (sourcesOf s) t seat)
+    (eqb-true (firstCause (judging (sourcesOf s) t seat ++ openCauses (seatHeld t seat) tree)) 0 q) in
+    let h = passes (sourcesOf s) t seat (b .0) .seat-in in
+    rw q (done (seatHeld t seat) refl h))
     (λ q. rw q p)
-    where
-      done : (held : Option Seat) → seatHeld t seat ≡ held → seat < seats → Passing (sourcesOf s) (openDone (sourcesOf s) t seat tree held .words)
-      done none e h = p
-      done (some k) e h =
-          let f = subst SeatOk e (seat-ok t (p .well) seat h) in
-          seated-passes (sourcesOf s) t p seat h (some (openedOn k tree (catalogue s)))
-          (with-fits k (freeHandle k) (some (opened (selectedBy (restriction tree) (catalogue s)))) (f .0) (f .1)
-          (selected-fits s (restriction tree) (catalogue s) refl))
-          (λ rows r b.
-            with-below (length rows) k (freeHandle k) (some (opened (selectedBy (restriction tree) (catalogue s))))
-            (ap (seatBelow (length rows)) (sym e) ∙ seat-below (length rows) t b seat h)
-            (ap (λ (x : Option (List Row)). every (λ row. ltb row (length rows)) (selectedBy (restriction tree) x)) r ∙ selected-below (restriction tree) rows))
+  where
+    done : (held : Option Seat) → seatHeld t seat ≡ held → seat < seats → Passing (sourcesOf s) (openDone (sourcesOf s) t seat tree held .words)
+    done none e h = p
+    done (some k) e h =
+        let f = subst SeatOk e (seat-ok t (p .well) seat h) in
+        seated-passes (sourcesOf s) t p seat h (some (openedOn k tree (catalogue s)))
+        (with-fits k (freeHandle k) (some (opened (selectedBy (restriction tree) (catalogue s)))) (f .0) (f .1)
+        (selected-fits s (restriction tree) (catalogue s) refl))
+        (λ rows r b.
+        with-below (length rows) k (freeHandle k) (some (opened (selectedBy (restriction tree) (catalogue s))))
+        (ap (seatBelow (length rows)) (sym e) ∙ seat-below (length rows) t b seat h)
+        (ap (λ (x : Option (List Row)). every (λ row. ltb row (length rows)) (selectedBy (restriction tree) x)) r ∙ selected-below (restriction tree) rows))

@@ -1,17 +1,16 @@
 -- What a table that passes says of a seat: its block, its first word, and the seat that it holds. Assumes nothing.
-use mathlib.Core.Path.{_≡_, refl, sym, ap, ap₂, _∙_}
+use mathlib.Core.Path.{_≡_, sym, ap, ap₂, _∙_}
 use mathlib.Core.Bool.{true, false}
 use mathlib.Core.List.{List}
-use mathlib.Core.Option.{Option, none, some}
-use Prim.Native.Nat.{ℕ, _+_, _-_, _*_, _≤_, _<_}
+use mathlib.Core.Option.{Option, none}
+use Prim.Native.Nat.{ℕ, _+_, _-_, _<_}
 use native.Mathlib.Nat.{add-zero}
 use native.Mathlib.Omega.{arith}
 use borrow.Author.Tests.{eq-eqb, ne-eqb}
-use lib.Dec.{eqb}
-use lib.ListN.{length, getD, take, drop}
+use lib.ListN.{getD, drop}
 use lib.Seq.{getD-take, getD-drop}
-use Rattle.sessions.specs.Layout.{seats, seatSize, tableSize, seatAt, part, put, blockOf}
-use Rattle.sessions.specs.Seat.{Seat, seatBlock, seatOf}
+use Rattle.sessions.specs.Layout.{seats, seatSize, seatAt, put, blockOf}
+use Rattle.sessions.specs.Seat.{Seat, seatBlock}
 use Rattle.sessions.specs.Well.{tableWell}
 use Rattle.sessions.specs.Fits.{SeatOk}
 use Rattle.sessions.proofs.Seats.{seat-back}

@@ -1,10 +1,8 @@
 // The server: connecting, opening a query, and messages, over a lent table of sessions and a lent catalogue.
-ghost use mathlib.Core.Path.{_≡_};
 ghost use mathlib.Core.List.{[]};
 ghost use lib.ListN.{length};
-ghost use Prim.Native.Nat.{_+_, _≤_, _<_};
-ghost use Rattle.messages.specs.Refusal.{firstCause};
-ghost use Rattle.server.specs.Step.{sourcesOf, judging, connectStep, openStep, messageStep, Keeps};
+ghost use Prim.Native.Nat.{_+_, _<_};
+ghost use Rattle.server.specs.Step.{sourcesOf, connectStep, openStep, messageStep, Keeps};
 ghost use Rattle.server.specs.Judgement.{Judgement};
 use messages::Answered;
 

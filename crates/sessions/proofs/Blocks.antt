@@ -15,9 +15,8 @@ use lib.ListN.{length, getD, take, drop, length-drop, length-replicate, getD-rep
 use lib.Seq.{drop-cons, drop-drop, length-take-le, ext-getD, take-append-add, take-add}
 use Rattle.words.specs.Below.{both}
 use Rattle.words.proofs.Below.{by-test, both-left, both-right, every-at, every-shown}
-use Rattle.columns.specs.Column.{columnAt, columnsFrom, columnsOf, recordOf, recordsOf, noWords, wordsOf}
+use Rattle.columns.specs.Column.{columnAt, columnsFrom, columnsOf, recordOf, recordsOf, noWords, wordsOf, columnsMost}
 use Rattle.columns.specs.Each.{every}
-use Rattle.columns.specs.Column.{columnsMost}
 use Rattle.columns.specs.Fit.{fit}
 use Rattle.columns.proofs.Columns.{from-length}
 use Rattle.sessions.specs.Layout.{cursorSize, openAt, positionAt, countAt, columnsAt, widthAt, recordsAt, recordsSize, rowsAt, rowsSize, part}

@@ -6,8 +6,7 @@ use Prim.Native.Nat.{ℕ, _+_, _-_, _≤_}
 use native.Mathlib.Omega.{arith}
 use borrow.Author.Tests.{eq-eqb, ne-eqb}
 use lib.ListN.{take, drop}
-use Rattle.columns.specs.Column.{columnsOf}
-use Rattle.columns.specs.Column.{columnsMost}
+use Rattle.columns.specs.Column.{columnsOf, columnsMost}
 use Rattle.columns.specs.Fit.{fit}
 use Rattle.columns.proofs.Columns.{from-length}
 use Rattle.columns.proofs.Sound.{fit-sound}

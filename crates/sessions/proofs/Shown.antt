@@ -11,9 +11,8 @@ use lib.Dec.{leb}
 use lib.ListN.{length, take, drop, length-append, length-replicate}
 use lib.Seq.{length-take-le, take-at, drop-at, take-append-add}
 use Rattle.words.proofs.Below.{both-true}
-use Rattle.columns.specs.Column.{columnsOf, recordsOf, noWords, wordsOf}
+use Rattle.columns.specs.Column.{columnsOf, recordsOf, noWords, wordsOf, columnsMost}
 use Rattle.columns.specs.Each.{every}
-use Rattle.columns.specs.Column.{columnsMost}
 use Rattle.columns.specs.Fit.{fit}
 use Rattle.columns.specs.declared.Column.{Column}
 use Rattle.columns.proofs.Sound.{fit-sound}

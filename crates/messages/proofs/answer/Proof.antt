@@ -2,16 +2,7 @@
 use borrow.Author.Needs.{needs}
 use Rattle.messages.proofs.answer.Statement.{statement}
 use Rattle.messages.proofs.answer.Tie as tie
-use Rattle.messages.proofs.answer.Reads as reads
-use Rattle.messages.proofs.answer.Lts as lts
-use Rattle.messages.proofs.bind.Reads as bind-reads
-use Rattle.messages.proofs.disconnect.Reads as disconnect-reads
-use Rattle.messages.proofs.free.Reads as free-reads
-use Rattle.messages.proofs.gate.Reads as gate-reads
-use Rattle.messages.proofs.kind.Reads as kind-reads
-use Rattle.messages.proofs.refuse.Reads as refuse-reads
-use Rattle.words.proofs.word.Reads as word-reads
-use mathlib.Core.Path.{_≡_, sym, ap, _∙_}
+use mathlib.Core.Path.{sym, ap, _∙_}
 use native.Mathlib.Omega.{arith}
 use Rattle.sessions.specs.Seat.{seatOf}
 use Rattle.messages.specs.Message.{kindOf}

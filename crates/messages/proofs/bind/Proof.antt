@@ -2,15 +2,7 @@
 use borrow.Author.Needs.{needs}
 use Rattle.messages.proofs.bind.Statement.{statement}
 use Rattle.messages.proofs.bind.Tie as tie
-use Rattle.messages.proofs.bind.Reads as reads
-use Rattle.messages.proofs.bind.Lts as lts
-use Rattle.bindings.proofs.read.Reads as read-reads
-use Rattle.columns.proofs.fit.Reads as fit-reads
-use Rattle.messages.proofs.is_open.Reads as is-open-reads
-use Rattle.messages.proofs.rebind.Reads as rebind-reads
-use Rattle.messages.proofs.refuse.Reads as refuse-reads
-use Rattle.spans.proofs.lay_header.Reads as lay-header-reads
-use mathlib.Core.Path.{_≡_, sym, ap, _∙_}
+use mathlib.Core.Path.{sym, ap, _∙_}
 use Prim.Native.Nat.{ℕ}
 use native.Mathlib.Omega.{arith}
 use borrow.Author.Tests.{not-true, not-false}

@@ -2,16 +2,12 @@
 use borrow.Author.Needs.{needs}
 use Rattle.messages.proofs.close.Statement.{statement}
 use Rattle.messages.proofs.close.Tie as tie
-use Rattle.messages.proofs.close.Reads as reads
-use Rattle.messages.proofs.close.Lts as lts
-use Rattle.messages.proofs.cursor_at.Reads as cursor-at-reads
-use Rattle.sessions.proofs.clear.Reads as clear-reads
-use mathlib.Core.Path.{_≡_, sym, ap, ap₂, _∙_}
-use Prim.Native.Nat.{ℕ, _+_, _-_, _≤_}
+use mathlib.Core.Path.{ap, ap₂, _∙_}
+use Prim.Native.Nat.{ℕ, _+_, _≤_}
 use native.Mathlib.Omega.{arith}
 use mathlib.Core.List.{List}
 use lib.ListN.{length}
-use Rattle.sessions.specs.Layout.{cursorSize, cursorPlace, put}
+use Rattle.sessions.specs.Layout.{cursorSize, put}
 use Rattle.sessions.specs.Seat.{zeros}
 use Rattle.sessions.proofs.Tables.{part-length}
 use Rattle.sessions.proofs.Judging.{part-is}

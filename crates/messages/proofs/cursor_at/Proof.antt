@@ -1,9 +1,6 @@
 -- `messages::cursor_at` meets its contract: the handle picks the place. Assumes nothing.
 use Rattle.messages.proofs.cursor_at.Statement.{statement}
 use Rattle.messages.proofs.cursor_at.Tie as tie
-use Rattle.messages.proofs.cursor_at.Reads as reads
-use Rattle.messages.proofs.cursor_at.Lts as lts
-use borrow.Author.Needs.{needs}
 use mathlib.Core.Path.{sym}
 use Rattle.messages.proofs.Handles.{place-first, place-second}
 

@@ -2,10 +2,6 @@
 use borrow.Author.Needs.{needs}
 use Rattle.messages.proofs.disconnect.Statement.{statement}
 use Rattle.messages.proofs.disconnect.Tie as tie
-use Rattle.messages.proofs.disconnect.Reads as reads
-use Rattle.messages.proofs.disconnect.Lts as lts
-use Rattle.messages.proofs.refuse.Reads as refuse-reads
-use Rattle.sessions.proofs.clear.Reads as clear-reads
 use native.Mathlib.Omega.{arith}
 use Rattle.messages.proofs.Answering.{block-is, refused-answers, body-refused}
 use Rattle.messages.proofs.Bodies.{body-there, disconnected}

@@ -2,16 +2,7 @@
 use borrow.Author.Needs.{needs}
 use Rattle.messages.proofs.free.Statement.{statement}
 use Rattle.messages.proofs.free.Tie as tie
-use Rattle.messages.proofs.free.Reads as reads
-use Rattle.messages.proofs.free.Lts as lts
-use Rattle.messages.proofs.close.Reads as close-reads
-use Rattle.messages.proofs.is_open.Reads as is-open-reads
-use Rattle.messages.proofs.open_count.Reads as open-count-reads
-use Rattle.messages.proofs.refuse.Reads as refuse-reads
-use Rattle.spans.proofs.lay_header.Reads as lay-header-reads
-use Rattle.spans.proofs.lay_word.Reads as lay-word-reads
-use Rattle.words.proofs.word.Reads as word-reads
-use mathlib.Core.Path.{_≡_, sym, ap, _∙_}
+use mathlib.Core.Path.{sym, ap, _∙_}
 use Prim.Native.Nat.{ℕ}
 use native.Mathlib.Omega.{arith}
 use borrow.Author.Tests.{not-true, not-false}

@@ -2,15 +2,9 @@
 use borrow.Author.Needs.{needs}
 use Rattle.messages.proofs.gate.Statement.{statement}
 use Rattle.messages.proofs.gate.Tie as tie
-use Rattle.messages.proofs.gate.Reads as reads
-use Rattle.messages.proofs.gate.Lts as lts
-use Rattle.messages.proofs.tested.Reads as tested-reads
-use Rattle.words.proofs.checksum.Reads as checksum-reads
-use Rattle.words.proofs.word.Reads as word-reads
-use mathlib.Core.Path.{_≡_, sym, ap, _∙_}
+use mathlib.Core.Path.{sym, ap, _∙_}
 use native.Mathlib.Omega.{arith}
 use borrow.Author.Tests.{not-true, not-false}
-use Prim.Native.Nat.{ℕ}
 use Rattle.messages.specs.Message.{tested}
 use Rattle.messages.proofs.Gating.{not-served, unconnected, old-client, not-tested, right, wrong, told-is}
 

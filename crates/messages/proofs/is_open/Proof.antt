@@ -2,8 +2,6 @@
 use borrow.Author.Needs.{needs}
 use Rattle.messages.proofs.is_open.Statement.{statement}
 use Rattle.messages.proofs.is_open.Tie as tie
-use Rattle.messages.proofs.is_open.Reads as reads
-use Rattle.messages.proofs.is_open.Lts as lts
 use mathlib.Core.Path.{sym}
 use Rattle.messages.proofs.Handles.{open-first, open-second, open-none}
 

@@ -1,12 +1,9 @@
 -- `messages::kind` meets its contract. The loop's invariant says what is left: the messages from the k-th on. Assumes nothing.
 use Rattle.messages.proofs.kind.Statement.{statement}
 use Rattle.messages.proofs.kind.Tie as tie
-use Rattle.messages.proofs.kind.Reads as reads
-use Rattle.messages.proofs.kind.Lts as lts
 use borrow.Author.Needs.{needs}
 use mathlib.Core.Path.{_≡_, sym, _∙_}
 use Prim.Native.Nat.{_≤_, _-_}
-use native.Mathlib.Omega.{arith}
 use Rattle.messages.specs.Message.{kinds, kindFrom}
 use Rattle.messages.proofs.Gating.{kind-here, kind-more, kind-none}
 

@@ -2,9 +2,6 @@
 use borrow.Author.Needs.{needs}
 use Rattle.messages.proofs.open_count.Statement.{statement}
 use Rattle.messages.proofs.open_count.Tie as tie
-use Rattle.messages.proofs.open_count.Reads as reads
-use Rattle.messages.proofs.open_count.Lts as lts
-use Rattle.messages.proofs.is_open.Reads as is-open-reads
 use mathlib.Core.Path.{sym, _∙_}
 use mathlib.Core.Bool.{true, false}
 use Rattle.sessions.specs.Seat.{seatIn}

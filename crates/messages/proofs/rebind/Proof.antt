@@ -2,18 +2,13 @@
 use borrow.Author.Needs.{needs}
 use Rattle.messages.proofs.rebind.Statement.{statement}
 use Rattle.messages.proofs.rebind.Tie as tie
-use Rattle.messages.proofs.rebind.Reads as reads
-use Rattle.messages.proofs.rebind.Lts as lts
-use Rattle.messages.proofs.cursor_at.Reads as cursor-at-reads
-use Rattle.sessions.proofs.bind.Reads as bind-reads
-use mathlib.Core.Path.{_≡_, sym, ap, ap₂, _∙_}
-use Prim.Native.Nat.{ℕ, _+_, _-_, _≤_}
+use mathlib.Core.Path.{ap, _∙_}
+use Prim.Native.Nat.{ℕ}
 use native.Mathlib.Omega.{arith}
 use mathlib.Core.List.{List}
-use lib.ListN.{length, set}
-use Rattle.sessions.specs.Layout.{cursorSize, cursorPlace, columnsAt, widthAt, recordsAt, recordsSize, part, put}
+use lib.ListN.{set}
+use Rattle.sessions.specs.Layout.{cursorSize, columnsAt, widthAt, recordsAt, recordsSize, part, put}
 use Rattle.sessions.proofs.Judging.{part-is}
-use Rattle.sessions.proofs.Tables.{part-length}
 use Rattle.messages.proofs.Handles.{place-inside, put-is}
 
 cursor-at-requires : tie.Need-cursor-at-requires

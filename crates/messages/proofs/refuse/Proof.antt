@@ -2,11 +2,7 @@
 use borrow.Author.Needs.{needs}
 use Rattle.messages.proofs.refuse.Statement.{statement}
 use Rattle.messages.proofs.refuse.Tie as tie
-use Rattle.messages.proofs.refuse.Reads as reads
-use Rattle.messages.proofs.refuse.Lts as lts
-use Rattle.messages.proofs.status.Reads as status-reads
-use Rattle.spans.proofs.lay_header.Reads as lay-header-reads
-use mathlib.Core.Path.{_≡_, refl, ap, _∙_}
+use mathlib.Core.Path.{refl, ap, _∙_}
 use Prim.Native.Nat.{ℕ}
 use Rattle.spans.specs.Laid.{lay, fourWords}
 

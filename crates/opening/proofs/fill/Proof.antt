@@ -2,14 +2,9 @@
 use borrow.Author.Needs.{needs}
 use Rattle.opening.proofs.fill.Statement.{statement}
 use Rattle.opening.proofs.fill.Tie as tie
-use Rattle.opening.proofs.fill.Reads as reads
-use Rattle.opening.proofs.fill.Lts as lts
-use Rattle.select.proofs.select.Reads as select-reads
-use Rattle.sessions.proofs.open.Reads as open-reads
-use mathlib.Core.Path.{ap, _∙_}
+use mathlib.Core.Path.{_∙_}
 use native.Mathlib.Omega.{arith}
 use Rattle.select.specs.Select.{selected}
-use Rattle.sessions.proofs.Tables.{put-length}
 use Rattle.opening.proofs.OpenLaws.{selected-few, filled, closed-length, filled-length}
 
 sub-select : tie.Need-sub-select
@@ -39,10 +34,10 @@ returns c =
     let a = c .before .before .before .before .before .before .before .before .before .before .before in
     c .before .before .«open» .ensures
     ∙ filled (a .args .block .now) (selected (a .args .tree .now) (a .args .catalogue .now)) _ (a .pre .0)
-      (selected-few (a .args .tree .now) (a .args .catalogue .now) _ _ (a .pre .1))
-      (c .before .before .before .before .before .before .select .ensures .laid)
-      _
-      (c .before .before .before .before .before .before .select .ensures .counted)
+    (selected-few (a .args .tree .now) (a .args .catalogue .now) _ _ (a .pre .1))
+    (c .before .before .before .before .before .before .select .ensures .laid)
+    _
+    (c .before .before .before .before .before .before .select .ensures .counted)
 
 pub fill-spec : {M : Type 1} → statement M
 fill-spec =

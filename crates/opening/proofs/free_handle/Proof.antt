@@ -2,9 +2,6 @@
 use borrow.Author.Needs.{needs}
 use Rattle.opening.proofs.free_handle.Statement.{statement}
 use Rattle.opening.proofs.free_handle.Tie as tie
-use Rattle.opening.proofs.free_handle.Reads as reads
-use Rattle.opening.proofs.free_handle.Lts as lts
-use Rattle.messages.proofs.is_open.Reads as is-open-reads
 use mathlib.Core.Path.{sym, _∙_}
 use borrow.Author.Tests.{not-true, not-false}
 use Rattle.sessions.specs.Seat.{seatIn}

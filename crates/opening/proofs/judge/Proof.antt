@@ -2,10 +2,6 @@
 use borrow.Author.Needs.{needs}
 use Rattle.opening.proofs.judge.Statement.{statement}
 use Rattle.opening.proofs.judge.Tie as tie
-use Rattle.opening.proofs.judge.Reads as reads
-use Rattle.opening.proofs.judge.Lts as lts
-use Rattle.opening.proofs.free_handle.Reads as free-handle-reads
-use Rattle.restriction.proofs.well_formed.Reads as well-formed-reads
 use mathlib.Core.Path.{sym, _∙_}
 use borrow.Author.Tests.{not-true, not-false}
 use Rattle.opening.proofs.OpenLaws.{open-gone, open-full, open-bad, open-free}

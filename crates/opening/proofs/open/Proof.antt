@@ -2,15 +2,11 @@
 use borrow.Author.Needs.{needs}
 use Rattle.opening.proofs.open.Statement.{statement}
 use Rattle.opening.proofs.open.Tie as tie
-use Rattle.opening.proofs.open.Reads as reads
-use Rattle.opening.proofs.open.Lts as lts
-use Rattle.messages.proofs.cursor_at.Reads as cursor-at-reads
-use Rattle.opening.proofs.fill.Reads as fill-reads
-use mathlib.Core.Path.{_≡_, sym, ap, ap₂, _∙_}
-use Prim.Native.Nat.{ℕ, _+_, _-_}
+use mathlib.Core.Path.{ap, ap₂, _∙_}
+use Prim.Native.Nat.{ℕ}
 use mathlib.Core.List.{List}
 use native.Mathlib.Omega.{arith}
-use Rattle.sessions.specs.Layout.{cursorSize, cursorPlace, part, put}
+use Rattle.sessions.specs.Layout.{cursorSize, part, put}
 use Rattle.sessions.proofs.Judging.{part-is}
 use Rattle.messages.proofs.Handles.{place-inside, put-is}
 

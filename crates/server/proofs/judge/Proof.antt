@@ -2,11 +2,6 @@
 use borrow.Author.Needs.{needs}
 use Rattle.server.proofs.judge.Statement.{statement}
 use Rattle.server.proofs.judge.Tie as tie
-use Rattle.server.proofs.judge.Reads as reads
-use Rattle.server.proofs.judge.Lts as lts
-use Rattle.catalogue.proofs.check.Reads as check-reads
-use Rattle.sessions.proofs.below.Reads as below-reads
-use Rattle.sessions.proofs.well.Reads as well-reads
 use mathlib.Core.Path.{sym, ap, _∙_}
 use Prim.Native.Nat.{ℕ}
 use native.Mathlib.Omega.{arith}

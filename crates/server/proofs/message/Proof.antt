@@ -2,21 +2,14 @@
 use borrow.Author.Needs.{needs}
 use Rattle.server.proofs.message.Statement.{statement}
 use Rattle.server.proofs.message.Tie as tie
-use Rattle.server.proofs.message.Reads as reads
-use Rattle.server.proofs.message.Lts as lts
-use Rattle.messages.proofs.answer.Reads as answer-reads
-use Rattle.server.proofs.judge.Reads as judge-reads
 use mathlib.Core.Path.{sym, ap, _∙_}
 use native.Mathlib.Omega.{arith}
-use Prim.Native.Nat.{_*_, _+_, _-_}
-use lib.ListN.{length, take, drop}
-use Rattle.sessions.specs.Layout.{seatSize, blockOf}
+use Prim.Native.Nat.{_*_}
+use lib.ListN.{length}
+use Rattle.sessions.specs.Layout.{seatSize}
 use Rattle.sessions.specs.Well.{seatWell}
-use Rattle.sessions.specs.Seat.{seatOf}
 use Rattle.sessions.proofs.Judging.{part-is}
 use Rattle.sessions.proofs.Tables.{table-length, table-seat, block-size}
-use Rattle.messages.specs.Message.{seatMessage}
-use Rattle.messages.specs.Answers.{Answers}
 use Rattle.server.specs.Step.{sourcesOf}
 use Rattle.server.proofs.Causes.{passes}
 use Rattle.server.proofs.Messaging.{message-judged, room-refused, short-refused, long-refused, message-answered}

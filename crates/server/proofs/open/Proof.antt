@@ -2,26 +2,21 @@
 use borrow.Author.Needs.{needs}
 use Rattle.server.proofs.open.Statement.{statement}
 use Rattle.server.proofs.open.Tie as tie
-use Rattle.server.proofs.open.Reads as reads
-use Rattle.server.proofs.open.Lts as lts
-use Rattle.opening.proofs.judge.Reads as judge-reads
-use Rattle.opening.proofs.open.Reads as open-reads
-use Rattle.server.proofs.judge.Reads as judge-reads′
-use mathlib.Core.Path.{_≡_, sym, ap, subst, _∙_}
+use mathlib.Core.Path.{sym, ap, _∙_}
 use native.Mathlib.Omega.{arith}
-use Prim.Native.Nat.{ℕ, _*_, _+_, _-_}
+use Prim.Native.Nat.{ℕ, _*_}
 use lib.ListN.{length, length-replicate}
-use Rattle.sessions.specs.Layout.{seatSize, cursorSize, cursorPlace, part, put, seatAt, blockOf}
+use Rattle.sessions.specs.Layout.{seatSize, cursorSize, cursorPlace, part, put}
 use Rattle.sessions.proofs.Judging.{part-is}
 use Rattle.sessions.proofs.Tables.{table-length, block-size}
-use Rattle.server.specs.Step.{sourcesOf, seatHeld, Keeps, openStep}
+use Rattle.server.specs.Step.{sourcesOf, seatHeld}
 use Rattle.server.proofs.Causes.{passes}
-use Rattle.server.proofs.Opening.{open-judged, open-refused, open-done, places-noted, free-closed, open-seat, part-closed, part-opened}
+use Rattle.server.proofs.Opening.{open-judged, open-refused, open-done, places-noted, open-seat, part-closed, part-opened}
 use mathlib.Core.Option.{some}
-use mathlib.Core.List.{List, []}
+use mathlib.Core.List.{List}
 use Rattle.sessions.specs.Seat.{opened, cursorBlock}
 use Rattle.select.specs.Select.{selected}
-use Rattle.opening.specs.Open.{freeHandle, openedOn}
+use Rattle.opening.specs.Open.{openedOn}
 use Rattle.opening.specs.Answer.{handleFor}
 use Rattle.server.proofs.Seating.{seated-is}
 
@@ -104,11 +99,12 @@ open-requires c κs =
     let j = rw (part-is t (seatSize * a .seat .0) seatSize) at (c .before .before .before .judge2 .ensures) in
     let f = sym (j .refused) ∙ c .before .before .if2 .left in
     let s = open-seat (seatHeld t (a .seat .0)) (a .tree .now) f in
-    let h = j .given (c .before .before .if2 .left) ∙ ap handleFor (s .1) in
-    (ap length (part-is t (seatSize * a .seat .0) seatSize) ∙ block-size t (table-length t (p .table-in)) (a .seat .0) (p .seat-in)
-    , ap (λ (b : List ℕ). part b (cursorPlace (c .before .before .before .judge2 .result .handle)) cursorSize) (part-is t (seatSize * a .seat .0) seatSize)
-      ∙ part-closed t (p .table-in) (a .seat .0) (p .seat-in) (s .0) (s .1) _ h (λ z. s .2 (sym h ∙ z))
-    , places-noted (a .catalogue .now) t _ _ (a .seat .0) _ (c .before .before .before .before .before .before .before .judge .ensures) (c .before .before .before .before .before .before .if1 .left) (p .rows-in) (omega (arith, length-replicate {A = ℕ} 1024 0)))
+    let h = j .given (c .before .before .if2 .left) ∙ ap handleFor (s .1) in (
+      ap length (part-is t (seatSize * a .seat .0) seatSize) ∙ block-size t (table-length t (p .table-in)) (a .seat .0) (p .seat-in),
+      ap (λ (b : List ℕ). part b (cursorPlace (c .before .before .before .judge2 .result .handle)) cursorSize) (part-is t (seatSize * a .seat .0) seatSize)
+          ∙ part-closed t (p .table-in) (a .seat .0) (p .seat-in) (s .0) (s .1) _ h (λ z. s .2 (sym h ∙ z)),
+      places-noted (a .catalogue .now) t _ _ (a .seat .0) _ (c .before .before .before .before .before .before .before .judge .ensures) (c .before .before .before .before .before .before .if1 .left) (p .rows-in) (omega (arith, length-replicate {A = ℕ} 1024 0)),
+    )
 
 same-length-3 : tie.Need-same-length-3
 same-length-3 c = search needs
@@ -127,7 +123,7 @@ returns-3 c =
     (seated-is t (a .seat .0) _ (some (openedOn (s .0) (a .tree .now) (sourcesOf (a .catalogue .now) .rows)))
     (c .before .before .«open» .ensures
     ∙ ap (λ (b : List ℕ). put b (cursorPlace (c .before .before .before .before .before .before .judge2 .result .handle)) cursorSize (cursorBlock (some (opened (selected (a .tree .now) (a .catalogue .now))))))
-      (part-is t (seatSize * a .seat .0) seatSize)
+    (part-is t (seatSize * a .seat .0) seatSize)
     ∙ part-opened t (p .table-in) (a .seat .0) (p .seat-in) (s .0) (s .1) _ h (some (opened (selected (a .tree .now) (a .catalogue .now))))))
 
 pub open-spec : {M : Type 1} → statement M
