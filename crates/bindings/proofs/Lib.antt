@@ -4,3 +4,4 @@ pub mod Told
 pub mod Agree
 pub mod Judged
 pub mod Vectors
+pub mod Once

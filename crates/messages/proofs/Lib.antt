@@ -6,3 +6,4 @@ pub mod Bodies
 pub mod Binding
 pub mod Tidy
 pub mod Keeping
+pub mod Once

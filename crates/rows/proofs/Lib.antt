@@ -12,3 +12,4 @@ pub mod Pick
 pub mod Inner
 pub mod ReadBack
 pub mod Head
+pub mod Told
