@@ -5,3 +5,4 @@ pub mod Messaging
 pub mod Opening
 pub mod Passing
 pub mod Once
+pub mod Unchanged
