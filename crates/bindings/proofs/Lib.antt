@@ -4,4 +4,3 @@ pub mod Told
 pub mod Agree
 pub mod Judged
 pub mod Vectors
-pub mod Once

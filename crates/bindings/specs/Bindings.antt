@@ -33,6 +33,7 @@ pub record Bindings : Type 0 where
   pub width : ℕ
   pub columns : List Column
 
+-- a column before others that were read
 abbrev pub before : Column → Option (List Column) → Option (List Column)
 before c none = none
 before c (some s) = some (c ∷ s)
@@ -44,6 +45,7 @@ columnsOn zero m at = pick (eqb at (length m)) (some []) none
 columnsOn (suc n) m at =
     withRead (ofPlace (paddedOn 4 m at)) none (λ _ place. withRead (ofColumn (columnOn m place)) none (λ c next. before c (columnsOn n m next)))
 
+-- columns that were read are handed on
 abbrev pub withColumns : Option (List Column) → (List Column → Option Bindings) → Option Bindings
 withColumns none f = none
 withColumns (some s) f = f s
@@ -63,6 +65,7 @@ abbrev pub keeping : ℕ → List ℕ → Option (List Column) → Option (List 
 keeping k words none = none
 keeping k words (some s) = some (keptAll k words s)
 
+-- the words that were left, where the reader says that the columns read
 abbrev pub keptOr : Bool → List ℕ → Option (List ℕ)
 keptOr true words = some words
 keptOr false words = none

@@ -39,7 +39,7 @@ withRow (RowTo f at) bad next = next f at
 abbrev pub unitBytesOf : ℕ → ℕ
 unitBytesOf size = 2 * (size - 1)
 
--- the bytes of a text's units, and the units
+-- the bytes of a text's units
 abbrev pub unitsPart : List ℕ → Text → List ℕ
 unitsPart s t = take (unitBytesOf (t .size)) (drop (t .start) s)
 
@@ -69,7 +69,7 @@ unfoldable pub rowsEnd : ℕ → List ℕ → ℕ → Bool
 rowsEnd zero s at = eqb at (length s)
 rowsEnd (suc n) s at = withRow (rowAt s at) false λ f next. rowsEnd n s next
 
--- the places of n rows from a place on, up to the first row that is malformed
+-- the places of n rows from a place on, as far as one can tell: the last is that of the first row that is malformed
 unfoldable pub placesFrom : ℕ → List ℕ → ℕ → List ℕ
 placesFrom zero s at = []
 placesFrom (suc n) s at = at ∷ withRow (rowAt s at) [] λ f next. placesFrom n s next
@@ -81,13 +81,14 @@ malformed = record { refusal = 3; rows = 0 }
 abbrev pub counted : ℕ → Bool → Checked
 counted n well = pick well (record { refusal = 0; rows = n }) malformed
 
+-- the check of the whole: its size, its row count, and its rows up to its last byte
 unfoldable pub checked : List ℕ → Checked
 checked s =
     pick (leb (length s) bytesMost)
     (withNumber (readingAt rowsMost s 0) malformed λ n at. counted n (rowsEnd n s at))
     malformed
 
--- the place of each row
+-- the place of each row; of a malformed catalogue, those of its rows up to the faulty one, its own included
 unfoldable pub places : List ℕ → List ℕ
 places s =
     pick (leb (length s) bytesMost)

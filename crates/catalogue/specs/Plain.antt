@@ -37,6 +37,7 @@ textAfter (suc n) s =
 unfoldable pub text : List ℕ → Option (Option (List ℕ) × List ℕ)
 text s = andThen (number sizeMost s) textAfter
 
+-- a row: its key, language, default, label and note, one after the other
 unfoldable pub row : List ℕ → Option (Row × List ℕ)
 row s =
     andThen (number keyMost s) λ key s₁.

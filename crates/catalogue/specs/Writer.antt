@@ -18,6 +18,7 @@ abbrev pub writeText : Option (List ℕ) → List ℕ
 writeText none = written 0
 writeText (some units) = written (length units + 1) ++ unitBytes units
 
+-- a row, rows one after the other, and the whole: the row count, then the rows
 abbrev pub writeRow : Row → List ℕ
 writeRow r = written (r .key) ++ (written (r .language) ++ (written (r .default) ++ (writeText (r .label) ++ writeText (r .note))))
 

@@ -96,5 +96,6 @@ fieldSpans base row place c f =
     ++ (laidIf (c .status .used) (row + c .status .offset) (statusOf f ∷ [])
     ++ laidIf (c .length .used) (row + c .length .offset) (le lengthSize (lengthOf (c .property) f))))
 
+-- the spans of a column in a row of the catalogue
 unfoldable pub columnSpans : ℕ → ℕ → ℕ → Column → Row → List Laid
 columnSpans base row place c r = fieldSpans base row place c (fieldOf (c .property) r)

@@ -19,6 +19,7 @@ pub data Field : Type 0 where
   text : List ℕ → Field
   absent : Field
 
+-- a text that may be absent
 abbrev pub textField : Option (List ℕ) → Field
 textField none = absent
 textField (some units) = text units
@@ -30,6 +31,7 @@ byProperty property key language default label note =
     (pick (eqb property languageProperty) language
     (pick (eqb property defaultProperty) default (pick (eqb property labelProperty) label note)))
 
+-- the field of a row that a property names
 abbrev pub fieldOf : ℕ → Row → Field
 fieldOf property r =
     byProperty property (number (r .key)) (number (r .language)) (number (r .default)) (textField (r .label)) (textField (r .note))

@@ -20,9 +20,11 @@ isUsed flag = eqb flag 1
 abbrev pub sized : ℕ → Value → Bool
 sized size v = either (not (isUsed (v .used))) (eqb (v .size) size)
 
+-- a type that the property may have gives its size, another gives 0
 abbrev pub typed : ℕ → Value → Bool
 typed size v = both (ltb 0 size) (sized size v)
 
+-- "property unknown ..; type other than 0x000C with value size 16, or ..": a column by itself
 abbrev pub columnFits : Column → Bool
 columnFits c = both (known (c .property)) (typed (cellSize (c .property) (c .vtype)) (c .value))
 
@@ -51,6 +53,7 @@ inside width a = leb (a .place + a .size) width
 abbrev pub apart : Span → Span → Bool
 apart a b = either (leb (a .place + a .size) (b .place)) (leb (b .place + b .size) (a .place))
 
+-- the columns by themselves, no property twice, the used spans in the row, and no two of them meeting
 unfoldable pub columnsFit : ℕ → List Column → Bool
 columnsFit width columns =
     both (every columnFits columns)

@@ -42,5 +42,6 @@ unfoldable pub spansFrom : ℕ → ℕ → List ℕ → List Span
 spansFrom zero i words = []
 spansFrom (suc n) i words = partIf (columnAt words (i / 3)) (i % 3) (spansFrom n (i + 1) words)
 
+-- three spans a column
 abbrev pub spansMost : ℕ
 spansMost = 3 * columnsMost

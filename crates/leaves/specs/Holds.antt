@@ -24,6 +24,7 @@ abbrev pub phraseHolds : ℕ → List ℕ → Option (List ℕ) → Bool
 phraseHolds method phrase none = false
 phraseHolds method phrase (some units) = occurs method phrase units
 
+-- a leaf holds for a row: the text or the number that its property names is asked
 abbrev pub leafHolds : Row → Leaf → Bool
 leafHolds row (content property phrase method) = phraseHolds method phrase (ofTexts property (row .label) (row .note))
 leafHolds row (relation relop property value) = relationHolds relop (ofNumbers property (row .key) (row .language) (row .default)) value

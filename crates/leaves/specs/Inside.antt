@@ -7,11 +7,12 @@ use Rattle.catalogue.specs.Places.{unitBytesOf}
 use Rattle.catalogue.specs.declared.Text.{Text}
 use Rattle.catalogue.specs.declared.Fields.{Fields}
 
--- the texts of a row lie inside the catalogue's bytes
+-- a text lies inside the catalogue's bytes
 pub record TextInside (s : List ℕ) (t : Text) : Type 0 where
   pub small : t .size ≤ sizeMost
   pub inside : t .start + unitBytesOf (t .size) ≤ length s
 
+-- and so do both texts of a row
 pub record RowInside (s : List ℕ) (f : Fields) : Type 0 where
   pub label : TextInside s (f .label)
   pub note : TextInside s (f .note)

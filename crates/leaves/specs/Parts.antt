@@ -39,9 +39,11 @@ phraseSized s place at before count =
     (PhraseTo start count (end + after))
     NoPhrase
 
+-- the phrase that begins, with its padding, at a place
 unfoldable pub phraseAt : List ℕ → ℕ → ℕ → PhraseAt
 phraseAt s place at = let before = padding (place + at) in phraseSized s place at before (numberAt 4 s (at + before))
 
+-- what is read of a phrase is handed on
 abbrev pub withPhrase : {A : Type 0} → PhraseAt → A → (ℕ → ℕ → ℕ → A) → A
 withPhrase NoPhrase bad next = bad
 withPhrase (PhraseTo start count to) bad next = next start count to
@@ -84,6 +86,7 @@ leafAt kind s place =
     let relation = relationAt s in
     pick (eqb kind 4) content (pick (eqb kind 5) relation NoLeaf)
 
+-- what is read of a leaf is handed on, with the bytes that it takes
 abbrev pub withLeaf : {A : Type 0} → LeafAt → A → (Parts → ℕ → A) → A
 withLeaf NoLeaf bad next = bad
 withLeaf (LeafTo parts used) bad next = next parts used

@@ -50,6 +50,7 @@ handleOf m = numberAt 4 m 16
 abbrev pub checksumWrong : ℕ → ℕ → List ℕ → Bool
 checksumWrong version kind m = both (both (leb 8 version) (tested kind)) (not (eqb (numberAt 4 m 8) (checksum m)))
 
+-- whether there is a cursor under a handle
 abbrev pub isOpen : Option Cursor → Bool
 isOpen none = false
 isOpen (some c) = true
@@ -58,11 +59,12 @@ isOpen (some c) = true
 abbrev pub notOpen : Seat → List ℕ → ℕ × Bool
 notOpen s m = (10, not (isOpen (cursorIn s (handleOf m))))
 
--- "bindings unfit", of a body that reads
+-- 9 "body malformed", for set bindings
 abbrev pub unread : Option Bindings → Bool
 unread none = true
 unread (some b) = false
 
+-- 12 "bindings unfit", of a body that reads
 abbrev pub unfit : Option Bindings → Bool
 unfit none = false
 unfit (some b) = not (fit (b .width) (b .columns))
@@ -79,10 +81,12 @@ abbrev pub gateCauses : Option Seat → List ℕ → List (ℕ × Bool)
 gateCauses none m = (6, not (served (msgOf m))) ∷ (7, true) ∷ []
 gateCauses (some s) m = (6, not (served (msgOf m))) ∷ (7, false) ∷ (8, checksumWrong (s .version) (kindOf (msgOf m)) m) ∷ []
 
+-- an unconnected seat is refused before
 abbrev pub bodyOf : Option Seat → List ℕ → List (ℕ × Bool)
 bodyOf none m = []
 bodyOf (some s) m = bodyCauses (kindOf (msgOf m)) s m
 
+-- all causes from 6 on, in order
 abbrev pub seatCauses : Option Seat → List ℕ → List (ℕ × Bool)
 seatCauses held m = gateCauses held m ++ bodyOf held m
 
@@ -104,9 +108,11 @@ openCount (some c) = 1
 abbrev pub stillOpen : Seat → ℕ
 stillOpen s = openCount (s .first) + openCount (s .second)
 
+-- a seat without the cursor that the message names
 abbrev pub freed : Seat → List ℕ → Seat
 freed s m = withCursor s (handleOf m) none
 
+-- a seat whose cursor under a handle has the bindings that were read
 abbrev pub boundTo : Seat → ℕ → Option Cursor → Option Bindings → Seat
 boundTo s handle none b = s
 boundTo s handle (some c) none = s
@@ -132,10 +138,12 @@ doneOn kind s m =
       after = some (boundTo s (handleOf m) (cursorIn s (handleOf m)) (bindings m));
     }))
 
+-- a message that is not refused is one of a connected seat: the first case never comes up
 abbrev pub doneBy : Option Seat → List ℕ → SeatOutcome
 doneBy none m = refusedOn 7 none m
 doneBy (some s) m = doneOn (kindOf (msgOf m)) s m
 
+-- a message on its seat: the first cause that applies is its refusal; where none does, what its kind does
 unfoldable pub seatMessage : Option Seat → List ℕ → SeatOutcome
 seatMessage held m =
     pick (eqb (firstCause (seatCauses held m)) 0) (doneBy held m) (refusedOn (firstCause (seatCauses held m)) held m)

@@ -42,12 +42,6 @@ const MESSAGES: [u32; 6] = [0xC9, 0, 0xCB, 0, 0xD0, 1];
 
 const KINDS: usize = 3;
 
-const FIRST: usize = 2;
-
-const SECOND: usize = 1076;
-
-const CURSOR_SIZE: usize = 1074;
-
 fn status(refusal: usize) -> u32
     requires { ⌜ refusal < 17 ⌝ }
     ensures { λ r. ⌜ r ≡ statusOf refusal ⌝ }
@@ -116,10 +110,10 @@ pub fn is_open(block: &[u32], handle: u32) -> bool
     ensures { λ r. ⌜ r ≡ isOpen (cursorIn (seatIn (now (block .entry))) handle) ⌝ }
 {
     if handle == 1 {
-        return block[FIRST] != 0;
+        return block[sessions::FIRST] != 0;
     }
     if handle == 2 {
-        return block[SECOND] != 0;
+        return block[sessions::SECOND] != 0;
     }
     false
 }
@@ -148,9 +142,9 @@ pub fn cursor_at(handle: u32) -> usize
     ensures { λ r. ⌜ r ≡ cursorPlace handle ⌝ }
 {
     if handle == 1 {
-        return FIRST;
+        return sessions::FIRST;
     }
-    SECOND
+    sessions::SECOND
 }
 
 // Closes the cursor of a handle.
@@ -159,7 +153,7 @@ fn close(block: &mut [u32], handle: u32)
     ensures { λ _. ⌜ now (block .exit) ≡ put (now (block .entry)) (cursorPlace handle) cursorSize (cursorBlock none) ⌝ }
 {
     let at = cursor_at(handle);
-    let end = at + CURSOR_SIZE;
+    let end = at + sessions::CURSOR_SIZE;
     sessions::clear(&mut block[at..end]);
 }
 
@@ -206,7 +200,7 @@ fn rebind(block: &mut [u32], handle: u32, records: &[u32], count: u32, width: u3
     ensures { λ _. ⌜ now (block .exit) ≡ reboundAt (now (block .entry)) handle (now (records .entry)) count width ⌝ }
 {
     let at = cursor_at(handle);
-    let end = at + CURSOR_SIZE;
+    let end = at + sessions::CURSOR_SIZE;
     sessions::bind(&mut block[at..end], records, count, width);
 }
 

@@ -12,5 +12,6 @@ abbrev pub placed : ℕ → Option (ℕ × ℕ) → Reading
 placed at none = Malformed
 placed at (some r) = Number (r .0) (at + r .1)
 
+-- the number at a place, at most a limit
 unfoldable pub readingAt : ℕ → List ℕ → ℕ → Reading
 readingAt limit s at = placed at (within limit (groups (drop at s)))

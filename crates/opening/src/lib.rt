@@ -9,10 +9,6 @@ ghost use Rattle.select.specs.Noted.{Noted};
 ghost use Rattle.opening.specs.Open.{freeHandle};
 ghost use Rattle.opening.specs.Answer.{Judged};
 
-const CURSOR_SIZE: usize = 1074;
-
-const ROWS: usize = 50;
-
 // The answer to opening: the refusal number, else 0, and the handle, 0 where it is refused.
 pub struct Opened {
     pub refusal: u32,
@@ -65,7 +61,13 @@ fn fill(block: &mut [u32], tree: &[u8], catalogue: &[u8], rows: u32, places: &[u
     requires { ⌜ (now block ≡ cursorBlock none) × Noted (now catalogue) rows (now places) ⌝ }
     ensures { λ _. ⌜ now (block .exit) ≡ cursorBlock (some (opened (selected (now (tree .entry)) (now (catalogue .entry))))) ⌝ }
 {
-    let count = select::select(tree, catalogue, rows, places, &mut block[ROWS..CURSOR_SIZE]);
+    let count = select::select(
+        tree,
+        catalogue,
+        rows,
+        places,
+        &mut block[sessions::ROWS..sessions::CURSOR_SIZE],
+    );
     sessions::open(block, count);
 }
 
@@ -82,6 +84,6 @@ pub fn open(
     ensures { λ _. ⌜ now (block .exit) ≡ put (now (block .entry)) (cursorPlace handle) cursorSize (cursorBlock (some (opened (selected (now (tree .entry)) (now (catalogue .entry)))))) ⌝ }
 {
     let at = messages::cursor_at(handle);
-    let end = at + CURSOR_SIZE;
+    let end = at + sessions::CURSOR_SIZE;
     fill(&mut block[at..end], tree, catalogue, rows, places);
 }

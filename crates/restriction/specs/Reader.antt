@@ -24,6 +24,7 @@ pub record ForestRead : Type 0 where
   pub used : ℕ
   pub nodes : ℕ
 
+-- a reader: of the nodes that may still come, the place of the first byte, and the unread bytes
 abbrev pub Read : Type 0
 Read = ℕ → ℕ → List ℕ → Option TreeRead
 

@@ -1,4 +1,4 @@
--- What a client reads of a column in a row of a reply: "each status, length, number and text read back at its bound place".
+-- What a client reads of a column in a row of a reply: each status, length, number and text at its bound place.
 use mathlib.Core.Path.{_≡_}
 use mathlib.Core.List.{List}
 use mathlib.Core.Option.{none}

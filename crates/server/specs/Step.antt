@@ -52,9 +52,11 @@ rowsHold (some rows) t = tableBelow (length rows) t
 abbrev pub judging : Sources → List ℕ → ℕ → List (ℕ × Bool)
 judging src t seat = (1, ltb 7 seat) ∷ (2, not (tableWell t)) ∷ (3, not (rowsHold (src .rows) t)) ∷ []
 
+-- the seat that a table holds, none where it is not connected
 abbrev pub seatHeld : List ℕ → ℕ → Option Seat
 seatHeld t seat = seatOf (blockOf t seat)
 
+-- whether it is connected
 abbrev pub isConnected : Option Seat → Bool
 isConnected none = false
 isConnected (some s) = true
@@ -67,6 +69,7 @@ seated t seat s = put t (seatAt seat) seatSize (seatBlock s)
 abbrev pub connectCauses : Sources → List ℕ → ℕ → List (ℕ × Bool)
 connectCauses src t seat = judging src t seat ++ ((7, isConnected (seatHeld t seat)) ∷ [])
 
+-- the seat is then a fresh one of the client's version: no cursor is open
 unfoldable pub connectStep : Sources → List ℕ → ℕ → ℕ → Outcome
 connectStep src t seat version =
     pick (eqb (firstCause (connectCauses src t seat)) 0)
@@ -77,9 +80,11 @@ connectStep src t seat version =
 abbrev pub sizing : List ℕ → ℕ → List (ℕ × Bool)
 sizing m room = (4, ltb room 16384) ∷ (5, not (messageSized m)) ∷ []
 
+-- what a message did to its seat, in the table
 abbrev pub onSeat : List ℕ → ℕ → SeatOutcome → Outcome
 onSeat t seat o = record { refusal = o .refusal; handle = 0; reply = o .reply; words = seated t seat (o .after) }
 
+-- refused by 1 to 5 without a reply; else the answer, the reply and the seat are those of the message on its seat
 unfoldable pub messageStep : Sources → List ℕ → ℕ → List ℕ → ℕ → Outcome
 messageStep src t seat m room =
     pick (eqb (firstCause (judging src t seat ++ sizing m room)) 0)
@@ -92,6 +97,7 @@ openDone src t seat tree none = quiet 7 t
 openDone src t seat tree (some s) =
     record { refusal = 0; handle = freeHandle s; reply = []; words = seated t seat (some (openedOn s tree (src .rows))) }
 
+-- refused without a reply; else a cursor is opened on the rows that the tree selects
 unfoldable pub openStep : Sources → List ℕ → ℕ → List ℕ → Outcome
 openStep src t seat tree =
     pick (eqb (firstCause (judging src t seat ++ openCauses (seatHeld t seat) tree)) 0)

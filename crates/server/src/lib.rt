@@ -13,8 +13,6 @@ pub struct Handle(pub u32);
 
 pub struct Row(pub u32);
 
-const SEAT_SIZE: usize = 2150;
-
 // What is judged of every call: the refusal, and the catalogue's row count where there is none.
 struct Judged {
     refusal: u32,
@@ -66,8 +64,8 @@ pub fn connect(table: &mut [u32], catalogue: &[u8], seat: Seat, version: u32) ->
     if refusal != 0 {
         return refusal;
     }
-    let at = SEAT_SIZE * (k as usize);
-    let end = at + SEAT_SIZE;
+    let at = sessions::SEAT_SIZE * (k as usize);
+    let end = at + sessions::SEAT_SIZE;
     if table[at] != 0 {
         return 7;
     }
@@ -96,8 +94,8 @@ pub fn open(table: &mut [u32], catalogue: &[u8], seat: Seat, tree: &[u8]) -> Ope
             handle: Handle(0),
         };
     }
-    let at = SEAT_SIZE * (k as usize);
-    let end = at + SEAT_SIZE;
+    let at = sessions::SEAT_SIZE * (k as usize);
+    let end = at + sessions::SEAT_SIZE;
     let opened = opening::judge(&table[at..end], tree);
     let refused = opened.refusal;
     let handle = opened.handle;
@@ -149,7 +147,7 @@ pub fn message(
             count: 0,
         };
     }
-    let at = SEAT_SIZE * (k as usize);
-    let end = at + SEAT_SIZE;
+    let at = sessions::SEAT_SIZE * (k as usize);
+    let end = at + sessions::SEAT_SIZE;
     messages::answer(&mut table[at..end], message, reply)
 }

@@ -34,7 +34,7 @@ firstAt = 2
 abbrev pub secondAt : ℕ
 secondAt = 1076
 
--- a handle's cursor
+-- a handle's cursor: 1, else 2 (a handle is judged before)
 abbrev pub cursorPlace : ℕ → ℕ
 cursorPlace handle = pick (eqb handle 1) firstAt secondAt
 

@@ -23,6 +23,7 @@ pub record Seat : Type 0 where
   pub first : Option Cursor
   pub second : Option Cursor
 
+-- n words that are zero
 abbrev pub zeros : ℕ → List ℕ
 zeros n = replicate n 0
 
@@ -81,7 +82,7 @@ moved c position = record { position = position; selection = c .selection; width
 abbrev pub cursorIn : Seat → ℕ → Option Cursor
 cursorIn s handle = pick (eqb handle 1) (s .first) (pick (eqb handle 2) (s .second) none)
 
--- a seat with another cursor under a handle
+-- a seat with another cursor under a handle: 1, else 2 (a handle is judged before)
 abbrev pub withCursor : Seat → ℕ → Option Cursor → Seat
 withCursor s handle c =
     pick (eqb handle 1)

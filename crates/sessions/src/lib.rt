@@ -14,13 +14,13 @@ pub const SEATS: u32 = 8;
 
 pub const TABLE_SIZE: usize = 17200;
 
-const SEAT_SIZE: usize = 2150;
+pub const SEAT_SIZE: usize = 2150;
 
-const CURSOR_SIZE: usize = 1074;
+pub const CURSOR_SIZE: usize = 1074;
 
-const FIRST: usize = 2;
+pub const FIRST: usize = 2;
 
-const SECOND: usize = 1076;
+pub const SECOND: usize = 1076;
 
 const CONNECTED: usize = 0;
 
@@ -38,7 +38,7 @@ const WIDTH: usize = 4;
 
 const RECORDS: usize = 5;
 
-const ROWS: usize = 50;
+pub const ROWS: usize = 50;
 
 const ROWS_SIZE: u32 = 1024;
 

@@ -7,10 +7,12 @@ abbrev pub pick {ℓ} : {A : Type ℓ} → Bool → A → A → A
 pick true a b = a
 pick false a b = b
 
+-- both tests hold
 abbrev pub both : Bool → Bool → Bool
 both true b = b
 both false b = false
 
+-- at least one of two tests holds
 abbrev pub either : Bool → Bool → Bool
 either true b = true
 either false b = b

@@ -15,7 +15,7 @@ headerSize = 16
 abbrev pub messageMost : ℕ
 messageMost = 16384
 
--- "a message of a size that 5 names": under 16 or over 16,384 bytes
+-- a size that refusal 5, "message under 16 or over 16,384 bytes", lets pass
 abbrev pub messageSized : List ℕ → Bool
 messageSized m = both (leb headerSize (length m)) (leb (length m) messageMost)
 
