@@ -172,15 +172,15 @@ fn branch(
     if s.len() < LIST_HEAD {
         return NodeRead::NoNode;
     }
-    let count = words::word(s, HEAD_SIZE);
-    if count == 0 {
+    let listed = words::word(s, HEAD_SIZE);
+    if listed == 0 {
         return NodeRead::NoNode;
     }
     let list = &s[LIST_HEAD..];
     let at = place + LIST_HEAD;
     joined(
         kind,
-        children(list, at, count, levels, nodes, catalogue, row),
+        children(list, at, listed, levels, nodes, catalogue, row),
     )
 }
 
