@@ -41,7 +41,8 @@ halves-written [] h = refl
 halves-written (u ∷ units) h =
     ap₂ _∷_ (omega (arith, h 0 (omega arith) .1)) (halves-written units (λ i l. h (suc i) (omega arith)))
 
-written-halves : (s : List ℕ) (n : ℕ) → length s ≡ 2 * n → Bytes s → unitBytes (halves s) ≡ s
+-- the bytes of the units of an even number of bytes are those bytes
+pub written-halves : (s : List ℕ) (n : ℕ) → length s ≡ 2 * n → Bytes s → unitBytes (halves s) ≡ s
 unfolding unitBytes le halves
 written-halves [] n e bytes = refl
 written-halves (a ∷ []) n e bytes = absurd (omega arith)

@@ -1,7 +1,7 @@
 -- Laws of a text's units and their bytes. Assumes nothing.
-use mathlib.Core.Path.{_≡_, refl, sym, ap, ap₂, _∙_}
+use mathlib.Core.Path.{_≡_, refl, sym, ap, _∙_}
 use mathlib.Core.List.{List, [], _∷_, _++_}
-use Prim.Native.Nat.{ℕ, suc, _+_, _-_, _*_, _≤_, _<_}
+use Prim.Native.Nat.{ℕ, _+_, _-_, _*_, _≤_, _<_}
 use native.Mathlib.Omega.{arith}
 use lib.ListN.{length, take, drop, length-take, length-drop, length-append, List·getD-eq-default}
 use lib.Seq.{getD-take, getD-drop, length-take-le}
@@ -13,6 +13,7 @@ use Rattle.words.proofs.Halves.{halves-length}
 use Rattle.catalogue.specs.Writer.{unitBytes}
 use Rattle.catalogue.specs.Places.{unitBytesOf, unitsPart}
 use Rattle.catalogue.specs.declared.Text.{Text}
+use Rattle.catalogue.proofs.RoundTrip.{written-halves}
 use Rattle.spans.specs.Laid.{lay}
 use Rattle.spans.proofs.Lay.{lay-join}
 use Rattle.cells.specs.Cell.{blockOf, textSize}
@@ -26,15 +27,6 @@ unit-bytes-length (u ∷ units) = omega (arith, unit-bytes-length units)
 -- a block is as long as the length says
 pub block-length : (units : List ℕ) → length (blockOf units) ≡ textSize units
 block-length units = length-append (unitBytes units) (0 ∷ 0 ∷ []) ∙ omega (arith, unit-bytes-length units)
-
--- the bytes of the units of an even number of bytes are those bytes
-written-halves : (s : List ℕ) (n : ℕ) → length s ≡ 2 * n → Bytes s → unitBytes (halves s) ≡ s
-unfolding unitBytes le halves
-written-halves [] n e bytes = refl
-written-halves (a ∷ []) n e bytes = absurd (omega arith)
-written-halves (a ∷ b ∷ s) n e bytes =
-    ap₂ (λ (x : ℕ) (r : List ℕ). x ∷ r) (omega (arith, bytes 0))
-    (ap₂ (λ (x : ℕ) (r : List ℕ). x ∷ r) (omega (arith, bytes 0, bytes 1)) (written-halves s (n - 1) (omega arith) (λ i. bytes (suc (suc i)))))
 
 bytes-part : (n at : ℕ) (s : List ℕ) → Bytes s → Bytes (take n (drop at s))
 bytes-part n at s bytes i =

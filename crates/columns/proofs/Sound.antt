@@ -42,7 +42,8 @@ shares a b e byte h k =
     (λ q. omega (arith, leb-true (a .place + a .size) (b .place) q))
     (λ q. omega (arith, leb-true (b .place + b .size) (a .place) (rw q at e)))
 
-either-way : (a b : ℕ) → (a ≡ b → ⊥) → (a < b) ⊎ (b < a)
+-- of two numbers that differ, one is below the other
+pub either-way : (a b : ℕ) → (a ≡ b → ⊥) → (a < b) ⊎ (b < a)
 either-way a b d = by-test (ltb a b) (λ q. inl (ltb-true a b q)) (λ q. inr (omega (arith, ltb-false a b q)))
 
 -- the parts of the definition

@@ -5,17 +5,15 @@ use mathlib.Core.List.{List, _++_}
 use mathlib.Core.Logic.{_⊎_, inl, inr, ⊎-elim}
 use Prim.Native.Nat.{ℕ, _+_, _-_, _≤_, _<_}
 use native.Mathlib.Omega.{arith}
-use borrow.Author.Tests.{eq-eqb, eqb-true, eqb-false, ltb-true, ltb-false}
-use lib.Dec.{ltb, eqb}
+use borrow.Author.Tests.{eq-eqb, eqb-true, eqb-false}
+use lib.Dec.{eqb}
 use lib.ListN.{length, getD, take, drop, length-append, length-drop, List·getD-append}
 use lib.Seq.{length-take-le, take-at, drop-at, ext-getD, getD-take, getD-drop, getD-append-add}
 use Rattle.words.specs.Below.{everyBelow}
+use Rattle.columns.proofs.Sound.{either-way}
 use Rattle.words.proofs.Below.{by-test, both-left, both-right, both-true, every-at, every-shown}
 use Rattle.sessions.specs.Layout.{seats, seatSize, tableSize, seatAt, part, put, blockOf}
 use Rattle.sessions.specs.Well.{seatWell, tableWell}
-
-lt-or-gt : (a b : ℕ) → (a ≡ b → ⊥) → (a < b) ⊎ (b < a)
-lt-or-gt a b d = by-test (ltb a b) (λ q. inl (ltb-true a b q)) (λ q. inr (omega (arith, ltb-false a b q)))
 
 pub same-or-not : (a b : ℕ) → (a ≡ b) ⊎ (a ≡ b → ⊥)
 same-or-not a b = by-test (eqb a b) (λ q. inl (eqb-true a b q)) (λ q. inr (eqb-false a b q))
@@ -99,7 +97,7 @@ module _ (t : List ℕ) (w : tableWell t ≡ true) (seat : ℕ) (h : seat < seat
 
   pub seat-other : (other : ℕ) → other < seats → (other ≡ seat → ⊥) → blockOf (put t (seatAt seat) seatSize block) other ≡ blockOf t other
   seat-other other k d =
-      put-other t (seatAt seat) seatSize block room l (seatAt other) seatSize (omega (arith, table-length t w)) (sides (lt-or-gt other seat d))
+      put-other t (seatAt seat) seatSize block room l (seatAt other) seatSize (omega (arith, table-length t w)) (sides (either-way other seat d))
     where
       sides : (other < seat) ⊎ (seat < other) → (seatAt other + seatSize ≤ seatAt seat) ⊎ (seatAt seat + seatSize ≤ seatAt other)
       sides s = ⊎-elim (λ (x : other < seat). inl (omega arith)) (λ (x : seat < other). inr (omega arith)) s
