@@ -8,16 +8,17 @@ use native.Mathlib.Omega.{arith}
 use borrow.Author.Tests.{ne-eqb}
 use lib.ListN.{length, getD, drop}
 use Rattle.words.specs.Word.{le}
+use Rattle.catalogue.specs.Plain.{Row}
 use Rattle.spans.specs.Laid.{lay, fourWords}
 use Rattle.sessions.specs.Layout.{connectedAt}
 use Rattle.sessions.specs.Seat.{Seat, seatBlock, seatIn, seatOf}
 use Rattle.sessions.specs.Fits.{CursorOk, SeatOk}
 use Rattle.sessions.proofs.Seats.{seat-back}
-use Rattle.messages.specs.Refusal.{firstCause, statusOf}
+use Rattle.refusals.specs.Refusal.{firstCause, statusOf}
 use Rattle.messages.specs.Message.{msgOf, gateCauses, bodyCauses, bodyOf, seatCauses, refusedOn, doneOn, doneBy, seatMessage}
 use Rattle.messages.specs.Answers.{Given, Admitted, Answers}
 use Rattle.messages.specs.declared.Answered.{Answered}
-use Rattle.messages.proofs.First.{Numbered, first-stop, first-go}
+use Rattle.refusals.proofs.First.{Numbered, first-stop, first-go}
 
 -- bytes laid over the start of a list
 pub lay-front : (t b : List ℕ) → lay t 0 b ≡ b ++ drop (length b) t
@@ -33,11 +34,11 @@ pub block-is : (b m reply : List ℕ) → Given b m reply → b ≡ seatBlock (s
 block-is b m reply g = seat-back b (g .size) (g .well) .0
 
 -- a refusal: the header, and nothing else
-pub refused-answers : (b m entry exit : List ℕ) (msg n : ℕ) (r : Answered) → b ≡ seatBlock (seatOf b) → msg ≡ msgOf m
-    → seatMessage (seatOf b) m ≡ refusedOn n (seatOf b) m → r ≡ record { refusal = n; count = 16 } → exit ≡ lay entry 0 (fourWords msg (statusOf n) 0 0)
-    → Answers (seatMessage (seatOf b) m) r b entry exit
+pub refused-answers : (rows : List Row) (b m entry exit : List ℕ) (msg n : ℕ) (r : Answered) → b ≡ seatBlock (seatOf b) → msg ≡ msgOf m
+    → seatMessage rows (seatOf b) m ≡ refusedOn n (seatOf b) m → r ≡ record { refusal = n; count = 16 } → exit ≡ lay entry 0 (fourWords msg (statusOf n) 0 0)
+    → Answers (seatMessage rows (seatOf b) m) r b entry exit
 unfolding le
-refused-answers b m entry exit msg n r e h o a w =
+refused-answers rows b m entry exit msg n r e h o a w =
     rw (o, a)
     record {
       refused = refl;
@@ -47,10 +48,10 @@ refused-answers b m entry exit msg n r e h o a w =
     }
 
 -- refusals 6 to 8
-pub gate-refused : (b m : List ℕ) (n : ℕ) → firstCause (gateCauses (seatOf b) m) ≡ n → (n ≡ 0 → ⊥) → seatMessage (seatOf b) m ≡ refusedOn n (seatOf b) m
+pub gate-refused : (rows : List Row) (b m : List ℕ) (n : ℕ) → firstCause (gateCauses (seatOf b) m) ≡ n → (n ≡ 0 → ⊥) → seatMessage rows (seatOf b) m ≡ refusedOn n (seatOf b) m
 unfolding seatMessage
-gate-refused b m n e z =
-    let f : firstCause (seatCauses (seatOf b) m) ≡ n = first-stop (gateCauses (seatOf b) m) (bodyOf (seatOf b) m) n e z in
+gate-refused rows b m n e z =
+    let f : firstCause (seatCauses rows (seatOf b) m) ≡ n = first-stop (gateCauses (seatOf b) m) (bodyOf rows (seatOf b) m) n e z in
     rw (f, ne-eqb n 0 z)
 
 -- a message that was admitted
@@ -64,19 +65,20 @@ module _ (b m reply : List ℕ) (msg kind : ℕ) (a : Admitted b m reply msg kin
   pub seat-fits : CursorOk (seatIn b .first) × CursorOk (seatIn b .second)
   seat-fits = subst SeatOk held (seat-back b (a .given .size) (a .given .well) .1)
 
-  causes-are : firstCause (seatCauses (seatOf b) m) ≡ firstCause (bodyCauses kind (seatIn b) m)
-  causes-are =
-      first-go (gateCauses (seatOf b) m) (bodyOf (seatOf b) m) (gate-numbered (seatOf b) m) (a .gated)
-      ∙ ap (λ (o : Option Seat). firstCause (bodyOf o m)) held
-      ∙ ap (λ (k : ℕ). firstCause (bodyCauses k (seatIn b) m)) (a .kind-is)
+  module _ (rows : List Row) where
+    causes-are : firstCause (seatCauses rows (seatOf b) m) ≡ firstCause (bodyCauses rows kind (seatIn b) m)
+    causes-are =
+        first-go (gateCauses (seatOf b) m) (bodyOf rows (seatOf b) m) (gate-numbered (seatOf b) m) (a .gated)
+        ∙ ap (λ (o : Option Seat). firstCause (bodyOf rows o m)) held
+        ∙ ap (λ (k : ℕ). firstCause (bodyCauses rows k (seatIn b) m)) (a .kind-is)
 
-  pub body-refused : (n : ℕ) → firstCause (bodyCauses kind (seatIn b) m) ≡ n → (n ≡ 0 → ⊥) → seatMessage (seatOf b) m ≡ refusedOn n (seatOf b) m
-  unfolding seatMessage
-  body-refused n e z = let f : firstCause (seatCauses (seatOf b) m) ≡ n = causes-are ∙ e in rw (f, ne-eqb n 0 z)
+    pub body-refused : (n : ℕ) → firstCause (bodyCauses rows kind (seatIn b) m) ≡ n → (n ≡ 0 → ⊥) → seatMessage rows (seatOf b) m ≡ refusedOn n (seatOf b) m
+    unfolding seatMessage
+    body-refused n e z = let f : firstCause (seatCauses rows (seatOf b) m) ≡ n = causes-are ∙ e in rw (f, ne-eqb n 0 z)
 
-  pub body-done : firstCause (bodyCauses kind (seatIn b) m) ≡ 0 → seatMessage (seatOf b) m ≡ doneOn kind (seatIn b) m
-  unfolding seatMessage
-  body-done e =
-      let f : firstCause (seatCauses (seatOf b) m) ≡ 0 = causes-are ∙ e in
-      rw f
-      (ap (λ (o : Option Seat). doneBy o m) held ∙ ap (λ (k : ℕ). doneOn k (seatIn b) m) (a .kind-is))
+    pub body-done : firstCause (bodyCauses rows kind (seatIn b) m) ≡ 0 → seatMessage rows (seatOf b) m ≡ doneOn rows kind (seatIn b) m
+    unfolding seatMessage
+    body-done e =
+        let f : firstCause (seatCauses rows (seatOf b) m) ≡ 0 = causes-are ∙ e in
+        rw f
+        (ap (λ (o : Option Seat). doneBy rows o m) held ∙ ap (λ (k : ℕ). doneOn rows k (seatIn b) m) (a .kind-is))

@@ -12,6 +12,7 @@ use Rattle.words.specs.Below.{pick}
 use Rattle.words.specs.Word.{numberAt, le}
 use Rattle.words.proofs.Below.{by-test, true≢false}
 use Rattle.words.proofs.Options.{none≢some, some-is}
+use Rattle.catalogue.specs.Plain.{Row}
 use Rattle.columns.specs.Column.{wordsOf}
 use Rattle.columns.specs.Fit.{fit}
 use Rattle.columns.specs.declared.Column.{Column}
@@ -26,7 +27,7 @@ use Rattle.sessions.specs.Seat.{Cursor, Seat, cursorBlock, seatBlock, seatIn, s
 use Rattle.sessions.specs.Fits.{CursorOk}
 use Rattle.sessions.proofs.Seats.{cursor-block}
 use Rattle.sessions.proofs.Writes.{rebound-block}
-use Rattle.messages.specs.Refusal.{firstCause}
+use Rattle.refusals.specs.Refusal.{firstCause}
 use Rattle.messages.specs.Message.{handleOf, isOpen, bodyCauses, boundTo, reboundAt, doneOn, seatMessage}
 use Rattle.messages.specs.Answers.{Admitted, Answers}
 use Rattle.messages.proofs.Answering.{lay-front, seat-is, seat-fits, body-done}
@@ -52,12 +53,12 @@ handle-is m x e =
     columns none w = absurd (none≢some w)
     columns (some s) w = sym (ap (λ (b : Bindings). b .handle) (some-is w))
 
-open-some : (o : Option Cursor) → isOpen o ≡ true → (c : Cursor) × (o ≡ some c)
+pub open-some : (o : Option Cursor) → isOpen o ≡ true → (c : Cursor) × (o ≡ some c)
 open-some none e = absurd (true≢false (sym e))
 open-some (some c) e = (c, refl)
 
 -- the part of a handle's cursor is that cursor's block
-part-handle : (s : Seat) (handle : ℕ) (c : Cursor) → CursorOk (s .first) → CursorOk (s .second) → cursorIn s handle ≡ some c
+pub part-handle : (s : Seat) (handle : ℕ) (c : Cursor) → CursorOk (s .first) → CursorOk (s .second) → cursorIn s handle ≡ some c
     → part (seatBlock (some s)) (cursorPlace handle) cursorSize ≡ cursorBlock (some c)
 part-handle s handle c f g e =
     by-test (eqb handle 1)
@@ -74,17 +75,17 @@ part-handle s handle c f g e =
         ∙ ap cursorBlock (rw k at w))
         (λ k. absurd (none≢some (rw k at w)))
 
-module _ (b m reply : List ℕ) (msg : ℕ) (a : Admitted b m reply msg 2) where
-  pub not-read : bindings m ≡ none → firstCause (bodyCauses 2 (seatIn b) m) ≡ 9
+module _ (b m reply : List ℕ) (msg : ℕ) (a : Admitted b m reply msg 3) (rows : List Row) where
+  pub not-read : bindings m ≡ none → firstCause (bodyCauses rows 3 (seatIn b) m) ≡ 9
   unfolding firstCause
   not-read e = rw e
 
-  pub not-opened : (x : Bindings) → bindings m ≡ some x → isOpen (cursorIn (seatIn b) (handleOf m)) ≡ false → firstCause (bodyCauses 2 (seatIn b) m) ≡ 10
+  pub not-opened : (x : Bindings) → bindings m ≡ some x → isOpen (cursorIn (seatIn b) (handleOf m)) ≡ false → firstCause (bodyCauses rows 3 (seatIn b) m) ≡ 10
   unfolding firstCause
   not-opened x e o = rw (e, o)
 
   pub not-fit : (x : Bindings) → bindings m ≡ some x → isOpen (cursorIn (seatIn b) (handleOf m)) ≡ true → fit (x .width) (x .columns) ≡ false
-      → firstCause (bodyCauses 2 (seatIn b) m) ≡ 12
+      → firstCause (bodyCauses rows 3 (seatIn b) m) ≡ 12
   unfolding firstCause
   not-fit x e o f = rw (e, o, f)
 
@@ -92,7 +93,7 @@ module _ (b m reply : List ℕ) (msg : ℕ) (a : Admitted b m reply msg 2) where
       → reboundAt b (handleOf m) (wordsOf (x .columns)) (length (x .columns)) (x .width)
       ≡ seatBlock (some (boundTo (seatIn b) (handleOf m) (cursorIn (seatIn b) (handleOf m)) (bindings m)))
   bound-block x e k =
-      ap (λ (y : List ℕ). reboundAt y (handleOf m) (wordsOf (x .columns)) (length (x .columns)) (x .width)) (seat-is b m reply msg 2 a)
+      ap (λ (y : List ℕ). reboundAt y (handleOf m) (wordsOf (x .columns)) (length (x .columns)) (x .width)) (seat-is b m reply msg 3 a)
       ∙ ap
       (λ (y : List ℕ).
       put (seatBlock (some (seatIn b))) (cursorPlace (handleOf m)) cursorSize
@@ -103,15 +104,15 @@ module _ (b m reply : List ℕ) (msg : ℕ) (a : Admitted b m reply msg 2) where
       ∙ ap₂ (λ (o : Option Cursor) (y : Option Bindings). seatBlock (some (boundTo (seatIn b) (handleOf m) o y))) (sym (k .1)) (sym e)
     where
       fits : CursorOk (seatIn b .first) × CursorOk (seatIn b .second)
-      fits = seat-fits b m reply msg 2 a
+      fits = seat-fits b m reply msg 3 a
 
   pub bound-answers : (x : Bindings) → bindings m ≡ some x → isOpen (cursorIn (seatIn b) (handleOf m)) ≡ true → fit (x .width) (x .columns) ≡ true
       → (block exit : List ℕ) → block ≡ reboundAt b (handleOf m) (wordsOf (x .columns)) (length (x .columns)) (x .width)
       → exit ≡ lay reply 0 (fourWords msg 0 0 0)
-      → Answers (seatMessage (seatOf b) m) (record { refusal = 0; count = 16 }) block reply exit
+      → Answers (seatMessage rows (seatOf b) m) (record { refusal = 0; count = 16 }) block reply exit
   unfolding firstCause le
   bound-answers x e o f block exit p w =
-      let d : seatMessage (seatOf b) m ≡ doneOn 2 (seatIn b) m = body-done b m reply msg 2 a (rw (e, o, f)) in
+      let d : seatMessage rows (seatOf b) m ≡ doneOn rows 3 (seatIn b) m = body-done b m reply msg 3 a rows (rw (e, o, f)) in
       rw d
       record {
         refused = refl;

@@ -11,13 +11,14 @@ use lib.Seq.{take-at, drop-append-add, drop-drop}
 use Rattle.words.specs.Word.{le}
 use Rattle.words.proofs.Below.{by-test}
 use Rattle.words.proofs.Options.{some-is}
+use Rattle.catalogue.specs.Plain.{Row}
 use Rattle.spans.specs.Laid.{lay, fourWords}
 use Rattle.sessions.specs.Layout.{cursorSize, cursorPlace, put}
 use Rattle.sessions.specs.Seat.{Cursor, Seat, zeros, cursorBlock, seatBlock, seatIn, seatOf, cursorIn, withCursor}
 use Rattle.sessions.specs.Fits.{CursorOk, SeatOk}
 use Rattle.sessions.proofs.Seats.{cursor-block, seat-block}
 use Rattle.sessions.proofs.Writes.{first-put, second-put}
-use Rattle.messages.specs.Refusal.{firstCause}
+use Rattle.refusals.specs.Refusal.{firstCause}
 use Rattle.messages.specs.Message.{handleOf, isOpen, stillOpen, freed, bodyCauses, doneOn, seatMessage}
 use Rattle.messages.specs.Answers.{Admitted, Answers}
 use Rattle.messages.proofs.Answering.{lay-front, seat-is, seat-fits, body-done}
@@ -52,25 +53,25 @@ lay-after t a b l =
         ∙ drop-drop (length b) 16 t
 
 -- disconnect
-module _ (b m reply : List ℕ) (msg : ℕ) (a : Admitted b m reply msg 0) where
-  pub body-there : (length m ≡ 16 → ⊥) → firstCause (bodyCauses 0 (seatIn b) m) ≡ 9
+module _ (b m reply : List ℕ) (msg : ℕ) (a : Admitted b m reply msg 0) (rows : List Row) where
+  pub body-there : (length m ≡ 16 → ⊥) → firstCause (bodyCauses rows 0 (seatIn b) m) ≡ 9
   unfolding firstCause
   body-there e = rw (ne-eqb (length m) 16 e)
 
   pub disconnected : length m ≡ 16 → (block : List ℕ) → block ≡ zeros (length b)
-      → Answers (seatMessage (seatOf b) m) (record { refusal = 0; count = 0 }) block reply reply
+      → Answers (seatMessage rows (seatOf b) m) (record { refusal = 0; count = 0 }) block reply reply
   unfolding firstCause
   disconnected e block z =
-      let o : seatMessage (seatOf b) m ≡ doneOn 0 (seatIn b) m = body-done b m reply msg 0 a (rw (eq-eqb (length m) 16 e)) in
+      let o : seatMessage rows (seatOf b) m ≡ doneOn rows 0 (seatIn b) m = body-done b m reply msg 0 a rows (rw (eq-eqb (length m) 16 e)) in
       rw o record { refused = refl; counted = refl; kept = z ∙ ap zeros (a .given .size); written = refl }
 
 -- free cursor
-module _ (b m reply : List ℕ) (msg : ℕ) (a : Admitted b m reply msg 1) where
-  pub not-four : (length m ≡ 20 → ⊥) → firstCause (bodyCauses 1 (seatIn b) m) ≡ 9
+module _ (b m reply : List ℕ) (msg : ℕ) (a : Admitted b m reply msg 1) (rows : List Row) where
+  pub not-four : (length m ≡ 20 → ⊥) → firstCause (bodyCauses rows 1 (seatIn b) m) ≡ 9
   unfolding firstCause
   not-four e = rw (ne-eqb (length m) 20 e)
 
-  pub not-open : length m ≡ 20 → isOpen (cursorIn (seatIn b) (handleOf m)) ≡ false → firstCause (bodyCauses 1 (seatIn b) m) ≡ 10
+  pub not-open : length m ≡ 20 → isOpen (cursorIn (seatIn b) (handleOf m)) ≡ false → firstCause (bodyCauses rows 1 (seatIn b) m) ≡ 10
   unfolding firstCause
   not-open e o = rw (eq-eqb (length m) 20 e, o)
 
@@ -82,10 +83,10 @@ module _ (b m reply : List ℕ) (msg : ℕ) (a : Admitted b m reply msg 1) where
   pub freed-answers : length m ≡ 20 → isOpen (cursorIn (seatIn b) (handleOf m)) ≡ true → (block exit : List ℕ) (left : ℕ)
       → block ≡ put b (cursorPlace (handleOf m)) cursorSize (cursorBlock none) → left ≡ stillOpen (seatIn block)
       → exit ≡ lay (lay reply 0 (fourWords msg 0 0 0)) 16 (le 4 left)
-      → Answers (seatMessage (seatOf b) m) (record { refusal = 0; count = 20 }) block reply exit
+      → Answers (seatMessage rows (seatOf b) m) (record { refusal = 0; count = 20 }) block reply exit
   unfolding firstCause le
   freed-answers e o block exit left p l w =
-      let d : seatMessage (seatOf b) m ≡ doneOn 1 (seatIn b) m = body-done b m reply msg 1 a (rw (eq-eqb (length m) 20 e, o)) in
+      let d : seatMessage rows (seatOf b) m ≡ doneOn rows 1 (seatIn b) m = body-done b m reply msg 1 a rows (rw (eq-eqb (length m) 20 e, o)) in
       let k : block ≡ seatBlock (some (freed (seatIn b) m)) = p ∙ freed-block in
       let n : left ≡ stillOpen (freed (seatIn b) m)
       = l ∙ ap (λ (x : List ℕ). stillOpen (seatIn x)) k

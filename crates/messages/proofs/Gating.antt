@@ -13,7 +13,7 @@ use Rattle.words.specs.Word.{numberAt}
 use Rattle.words.specs.Checksum.{checksum, checksumTold}
 use Rattle.words.proofs.Below.{by-test}
 use Rattle.sessions.specs.Seat.{Seat, seatOf}
-use Rattle.messages.specs.Refusal.{firstCause}
+use Rattle.refusals.specs.Refusal.{firstCause}
 use Rattle.messages.specs.Message.{messageTable, kinds, kindFrom, kindOf, served, tested, msgOf, checksumWrong, gateCauses}
 
 left-is : (k : ℕ) → k < kinds → kinds - k ≡ suc (kinds - (k + 1))

@@ -1,9 +1,9 @@
-pub mod First
 pub mod Gating
 pub mod Handles
 pub mod Answering
 pub mod Bodies
 pub mod Binding
+pub mod Rows
 pub mod Tidy
 pub mod Keeping
 pub mod Once

@@ -4,11 +4,13 @@ use mathlib.Core.Bool.{true}
 use mathlib.Core.List.{List, _++_}
 use Prim.Native.Nat.{ℕ, _≤_}
 use lib.ListN.{length, getD, drop}
+use Rattle.catalogue.specs.Plain.{Row, catalogue}
 use Rattle.sessions.specs.Layout.{seatSize, connectedAt}
 use Rattle.sessions.specs.Seat.{seatBlock, seatOf}
-use Rattle.sessions.specs.Well.{seatWell}
-use Rattle.messages.specs.Refusal.{firstCause}
-use Rattle.messages.specs.Message.{SeatOutcome, msgOf, kindOf, gateCauses}
+use Rattle.sessions.specs.Well.{seatWell, seatBelow}
+use Rattle.fetching.specs.Ready.{rowsOf, Placed}
+use Rattle.refusals.specs.Refusal.{firstCause}
+use Rattle.messages.specs.Message.{SeatOutcome, msgOf, kindOf, gateCauses, seatMessage}
 use Rattle.messages.specs.declared.Answered.{Answered}
 
 -- a seat's block that passes, a message and a buffer that 4 and 5 let pass
@@ -27,9 +29,18 @@ pub record Admitted (b m reply : List ℕ) (msg kind : ℕ) : Type 0 where
   pub kind-is : kindOf (msgOf m) ≡ kind
   pub gated : firstCause (gateCauses (seatOf b) m) ≡ 0
 
+-- a catalogue that has the row numbers of the seat's cursors, and its rows at their places
+pub record Sourced (b s places : List ℕ) : Type 0 where
+  pub below : seatBelow (length (rowsOf (catalogue s))) (seatOf b) ≡ true
+  pub placed : Placed s places
+
 -- the answer is the outcome's, the block is the seat's afterwards, and the buffer is unchanged past the reply
 pub record Answers (o : SeatOutcome) (r : Answered) (block entry exit : List ℕ) : Type 0 where
   pub refused : r .refusal ≡ o .refusal
   pub counted : r .count ≡ length (o .reply)
   pub kept : block ≡ seatBlock (o .after)
   pub written : exit ≡ o .reply ++ drop (length (o .reply)) entry
+
+-- a message that sends no rows is answered so whatever rows the catalogue has
+abbrev pub AnswersAny : List ℕ → List ℕ → Answered → List ℕ → List ℕ → List ℕ → Type 0
+AnswersAny b m r block entry exit = (rows : List Row) → Answers (seatMessage rows (seatOf b) m) r block entry exit

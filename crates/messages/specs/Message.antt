@@ -1,5 +1,5 @@
--- What a message does to its seat (01, "Header and checksum", the refusal table, "Bindings" and the paragraph on disconnect
--- and free cursor).
+-- What a message does to its seat (01, "Header and checksum", the refusal table, "Bindings", "Rows" and the paragraph on
+-- disconnect and free cursor).
 use mathlib.Core.Bool.{Bool, true, false, not}
 use mathlib.Core.List.{List, [], _∷_, _++_}
 use mathlib.Core.Option.{Option, none, some}
@@ -9,21 +9,25 @@ use lib.ListN.{length, getD, set}
 use Rattle.words.specs.Below.{pick, both}
 use Rattle.words.specs.Word.{numberAt, le}
 use Rattle.words.specs.Checksum.{checksum}
+use Rattle.catalogue.specs.Plain.{Row}
 use Rattle.columns.specs.Fit.{fit}
 use Rattle.bindings.specs.Bindings.{Bindings}
 use Rattle.bindings.specs.Plain.{bindings}
 use Rattle.spans.specs.Laid.{fourWords}
 use Rattle.sessions.specs.Layout.{cursorSize, cursorPlace, columnsAt, widthAt, recordsAt, recordsSize, part, put}
 use Rattle.sessions.specs.Seat.{Cursor, Seat, cursorIn, withCursor, rebound}
-use Rattle.messages.specs.Refusal.{firstCause, statusOf}
+use Rattle.refusals.specs.Refusal.{firstCause, statusOf}
+use Rattle.requests.specs.Request.{request}
+use Rattle.requests.specs.declared.Request.{Request}
+use Rattle.fetching.specs.Fetch.{fetchCauses, fetchReply, fetched}
 
--- the messages served, each its number and whether its checksum is tested: "disconnect 0xC9, free cursor 0xCB, .. set bindings
--- 0xD0", "the checksum of .. set bindings is tested (..); other messages are not"
+-- the messages served, each its number and whether its checksum is tested: "disconnect 0xC9, free cursor 0xCB, get rows 0xCC,
+-- set bindings 0xD0", "the checksum of get rows and set bindings is tested (..); other messages are not"
 abbrev pub messageTable : List ℕ
-messageTable = 0xC9 ∷ 0 ∷ 0xCB ∷ 0 ∷ 0xD0 ∷ 1 ∷ []
+messageTable = 0xC9 ∷ 0 ∷ 0xCB ∷ 0 ∷ 0xCC ∷ 1 ∷ 0xD0 ∷ 1 ∷ []
 
 abbrev pub kinds : ℕ
-kinds = 3
+kinds = 4
 
 -- the kind of a message is its place among those; one that is not served has the count of kinds
 unfoldable pub kindFrom : ℕ → ℕ → ℕ → ℕ
@@ -69,12 +73,24 @@ abbrev pub unfit : Option Bindings → Bool
 unfit none = false
 unfit (some b) = not (fit (b .width) (b .columns))
 
--- 9 and after it, by kind: "Disconnect (empty body)", "Free cursor has a body of exactly 4 bytes", set bindings
-abbrev pub bodyCauses : ℕ → Seat → List ℕ → List (ℕ × Bool)
-bodyCauses kind s m =
+-- 9 "body malformed", for get rows
+abbrev pub unasked : Option Request → Bool
+unasked none = true
+unasked (some q) = false
+
+-- 11, 12, 13 and 15, of a body that reads and an open cursor
+abbrev pub rowsCauses : List Row → Option Cursor → Option Request → List (ℕ × Bool)
+rowsCauses rows none q = []
+rowsCauses rows (some c) none = []
+rowsCauses rows (some c) (some q) = fetchCauses rows c q
+
+-- 9 and after it, by kind: "Disconnect (empty body)", "Free cursor has a body of exactly 4 bytes", get rows, set bindings
+abbrev pub bodyCauses : List Row → ℕ → Seat → List ℕ → List (ℕ × Bool)
+bodyCauses rows kind s m =
     pick (eqb kind 0) ((9, not (eqb (length m) 16)) ∷ [])
     (pick (eqb kind 1) ((9, not (eqb (length m) 20)) ∷ notOpen s m ∷ [])
-    ((9, unread (bindings m)) ∷ notOpen s m ∷ (12, unfit (bindings m)) ∷ []))
+    (pick (eqb kind 2) ((9, unasked (request m)) ∷ notOpen s m ∷ rowsCauses rows (cursorIn s (handleOf m)) (request m))
+    ((9, unread (bindings m)) ∷ notOpen s m ∷ (12, unfit (bindings m)) ∷ [])))
 
 -- 6 "message number not served", 7 "anything else on an unconnected one", 8 "checksum tested and wrong"
 abbrev pub gateCauses : Option Seat → List ℕ → List (ℕ × Bool)
@@ -82,13 +98,13 @@ gateCauses none m = (6, not (served (msgOf m))) ∷ (7, true) ∷ []
 gateCauses (some s) m = (6, not (served (msgOf m))) ∷ (7, false) ∷ (8, checksumWrong (s .version) (kindOf (msgOf m)) m) ∷ []
 
 -- an unconnected seat is refused before
-abbrev pub bodyOf : Option Seat → List ℕ → List (ℕ × Bool)
-bodyOf none m = []
-bodyOf (some s) m = bodyCauses (kindOf (msgOf m)) s m
+abbrev pub bodyOf : List Row → Option Seat → List ℕ → List (ℕ × Bool)
+bodyOf rows none m = []
+bodyOf rows (some s) m = bodyCauses rows (kindOf (msgOf m)) s m
 
 -- all causes from 6 on, in order
-abbrev pub seatCauses : Option Seat → List ℕ → List (ℕ × Bool)
-seatCauses held m = gateCauses held m ++ bodyOf held m
+abbrev pub seatCauses : List Row → Option Seat → List ℕ → List (ℕ × Bool)
+seatCauses rows held m = gateCauses held m ++ bodyOf rows held m
 
 -- what a message leaves of its seat: its answer, its reply, and the seat
 pub record SeatOutcome : Type 0 where
@@ -124,26 +140,38 @@ reboundAt b handle records count width =
     put b (cursorPlace handle) cursorSize
     (put (set (set (part b (cursorPlace handle) cursorSize) columnsAt count) widthAt width) recordsAt recordsSize records)
 
+-- a seat that rows were sent to: the reply, and the cursor moved (without a request or a cursor it is refused before)
+abbrev pub rowsDone : List Row → Seat → ℕ → Option Cursor → Option Request → SeatOutcome
+rowsDone rows s handle (some c) (some q) =
+    record { refusal = 0; reply = fetchReply rows c q; after = some (withCursor s handle (some (fetched rows c q))) }
+rowsDone rows s handle none q = record { refusal = 0; reply = []; after = some s }
+rowsDone rows s handle (some c) none = record { refusal = 0; reply = []; after = some s }
+
 -- disconnect "closes both cursors, leaves the seat unconnected and writes nothing"; free cursor's "reply is _msg, three zero
--- words and the seat's count of cursors still open, 20 bytes"; "Accepted bindings replace the old; .. the reply is 16 bytes:
--- _msg, zero, zero, zero"
-abbrev pub doneOn : ℕ → Seat → List ℕ → SeatOutcome
-doneOn kind s m =
+-- words and the seat's count of cursors still open, 20 bytes"; get rows; "Accepted bindings replace the old; .. the reply is 16
+-- bytes: _msg, zero, zero, zero"
+abbrev pub doneOn : List Row → ℕ → Seat → List ℕ → SeatOutcome
+doneOn rows kind s m =
     pick (eqb kind 0) (record { refusal = 0; reply = []; after = none })
     (pick (eqb kind 1)
     (record { refusal = 0; reply = fourWords (msgOf m) 0 0 0 ++ le 4 (stillOpen (freed s m)); after = some (freed s m) })
+    (pick (eqb kind 2)
+    (rowsDone rows s (handleOf m) (cursorIn s (handleOf m)) (request m))
     (record {
       refusal = 0;
       reply = fourWords (msgOf m) 0 0 0;
       after = some (boundTo s (handleOf m) (cursorIn s (handleOf m)) (bindings m));
-    }))
+    })))
 
 -- a message that is not refused is one of a connected seat: the first case never comes up
-abbrev pub doneBy : Option Seat → List ℕ → SeatOutcome
-doneBy none m = refusedOn 7 none m
-doneBy (some s) m = doneOn (kindOf (msgOf m)) s m
+abbrev pub doneBy : List Row → Option Seat → List ℕ → SeatOutcome
+doneBy rows none m = refusedOn 7 none m
+doneBy rows (some s) m = doneOn rows (kindOf (msgOf m)) s m
 
--- a message on its seat: the first cause that applies is its refusal; where none does, what its kind does
-unfoldable pub seatMessage : Option Seat → List ℕ → SeatOutcome
-seatMessage held m =
-    pick (eqb (firstCause (seatCauses held m)) 0) (doneBy held m) (refusedOn (firstCause (seatCauses held m)) held m)
+-- a message on its seat, with the catalogue's rows: the first cause that applies is its refusal; where none does, what its kind
+-- does
+unfoldable pub seatMessage : List Row → Option Seat → List ℕ → SeatOutcome
+seatMessage rows held m =
+    pick (eqb (firstCause (seatCauses rows held m)) 0)
+    (doneBy rows held m)
+    (refusedOn (firstCause (seatCauses rows held m)) held m)

@@ -1,14 +1,17 @@
-// What a message does to its seat: refusals from 6 on, and the messages that send no rows.
+// What a message does to its seat: refusals from 6 on, and the four messages.
 ghost use mathlib.Core.Path.{_≡_};
 ghost use mathlib.Core.Option.{none};
 ghost use Prim.Native.Nat.{_+_, _*_, _≤_, _<_};
 ghost use lib.ListN.{length};
+ghost use Rattle.catalogue.specs.Plain.{catalogue};
 ghost use Rattle.spans.specs.Laid.{lay, fourWords};
 ghost use Rattle.sessions.specs.Layout.{seatSize, cursorSize, cursorPlace, recordsSize, put};
 ghost use Rattle.sessions.specs.Seat.{cursorBlock, cursorIn, seatIn, seatOf};
-ghost use Rattle.messages.specs.Refusal.{firstCause, statusOf};
+ghost use Rattle.refusals.specs.Refusal.{firstCause, statusOf};
 ghost use Rattle.messages.specs.Message.{kinds, kindOf, tested, msgOf, gateCauses, isOpen, stillOpen, seatMessage, reboundAt};
-ghost use Rattle.messages.specs.Answers.{Given, Admitted, Answers};
+ghost use Rattle.fetching.specs.Ready.{rowsOf};
+ghost use Rattle.messages.specs.Answers.{Given, Admitted, Sourced, Answers, AnswersAny};
+use requests::Asking;
 
 // The answer to a message: the refusal number, else 0, and the count of reply bytes.
 pub struct Answered {
@@ -16,38 +19,10 @@ pub struct Answered {
     pub count: u32,
 }
 
-// The statuses of the refusals, by number; those of 0 to 5 are never sent.
-const STATUSES: [u32; 17] = [
-    0,
-    0,
-    0,
-    0,
-    0,
-    0,
-    0xC000000D,
-    0xC000000D,
-    0xC000000D,
-    0xC000000D,
-    0x80004005,
-    0x8000FFFF,
-    0x80040E08,
-    0xC00000BB,
-    0xC000009A,
-    0xC0000023,
-    0xC000000D,
-];
-
 // The messages served: each its number, and 1 where its checksum is tested.
-const MESSAGES: [u32; 6] = [0xC9, 0, 0xCB, 0, 0xD0, 1];
+const MESSAGES: [u32; 8] = [0xC9, 0, 0xCB, 0, 0xCC, 1, 0xD0, 1];
 
-const KINDS: usize = 3;
-
-fn status(refusal: usize) -> u32
-    requires { ⌜ refusal < 17 ⌝ }
-    ensures { λ r. ⌜ r ≡ statusOf refusal ⌝ }
-{
-    STATUSES[refusal]
-}
+const KINDS: usize = 4;
 
 // The kind of a message: its place among those served, else their count.
 fn kind(msg: u32) -> usize
@@ -99,7 +74,7 @@ fn refuse(reply: &mut [u8], msg: u32, refusal: u32) -> Answered
     requires { ⌜ (16 ≤ length (now reply)) × (refusal < 17) ⌝ }
     ensures { λ r. ⌜ (r ≡ record { refusal = refusal; count = 16 }) × (now (reply .exit) ≡ lay (now (reply .entry)) 0 (fourWords msg (statusOf refusal) 0 0)) ⌝ }
 {
-    let sent = status(refusal as usize);
+    let sent = refusals::status(refusal);
     spans::lay_header(reply, msg, sent);
     Answered { refusal, count: 16 }
 }
@@ -160,7 +135,7 @@ fn close(block: &mut [u32], handle: u32)
 // Disconnect: both cursors are closed, and the seat is left unconnected.
 fn disconnect(block: &mut [u32], m: &[u8], reply: &mut [u8], msg: u32) -> Answered
     requires { ⌜ Admitted (now block) (now m) (now reply) msg 0 ⌝ }
-    ensures { λ r. ⌜ Answers (seatMessage (seatOf (now (block .entry))) (now (m .entry))) r (now (block .exit)) (now (reply .entry)) (now (reply .exit)) ⌝ }
+    ensures { λ r. ⌜ AnswersAny (now (block .entry)) (now (m .entry)) r (now (block .exit)) (now (reply .entry)) (now (reply .exit)) ⌝ }
 {
     if m.len() != 16 {
         return refuse(reply, msg, 9);
@@ -175,7 +150,7 @@ fn disconnect(block: &mut [u32], m: &[u8], reply: &mut [u8], msg: u32) -> Answer
 // Free cursor: the reply counts the cursors still open.
 fn free(block: &mut [u32], m: &[u8], reply: &mut [u8], msg: u32) -> Answered
     requires { ⌜ Admitted (now block) (now m) (now reply) msg 1 ⌝ }
-    ensures { λ r. ⌜ Answers (seatMessage (seatOf (now (block .entry))) (now (m .entry))) r (now (block .exit)) (now (reply .entry)) (now (reply .exit)) ⌝ }
+    ensures { λ r. ⌜ AnswersAny (now (block .entry)) (now (m .entry)) r (now (block .exit)) (now (reply .entry)) (now (reply .exit)) ⌝ }
 {
     if m.len() != 20 {
         return refuse(reply, msg, 9);
@@ -206,8 +181,8 @@ fn rebind(block: &mut [u32], handle: u32, records: &[u32], count: u32, width: u3
 
 // Set bindings: they replace the old, and the position stays.
 fn bind(block: &mut [u32], m: &[u8], reply: &mut [u8], msg: u32) -> Answered
-    requires { ⌜ Admitted (now block) (now m) (now reply) msg 2 ⌝ }
-    ensures { λ r. ⌜ Answers (seatMessage (seatOf (now (block .entry))) (now (m .entry))) r (now (block .exit)) (now (reply .entry)) (now (reply .exit)) ⌝ }
+    requires { ⌜ Admitted (now block) (now m) (now reply) msg 3 ⌝ }
+    ensures { λ r. ⌜ AnswersAny (now (block .entry)) (now (m .entry)) r (now (block .exit)) (now (reply .entry)) (now (reply .exit)) ⌝ }
 {
     let mut records = [0u32; 45];
     let read = bindings::read(m, &mut records);
@@ -232,10 +207,42 @@ fn bind(block: &mut [u32], m: &[u8], reply: &mut [u8], msg: u32) -> Answered
     }
 }
 
+// Get rows: a page of the cursor's rows, and the cursor moved past them.
+fn fetch(
+    block: &mut [u32],
+    m: &[u8],
+    s: &[u8],
+    places: &[u32],
+    reply: &mut [u8],
+    msg: u32,
+) -> Answered
+    requires { ⌜ Admitted (now block) (now m) (now reply) msg 2 × Sourced (now block) (now s) (now places) ⌝ }
+    ensures { λ r. ⌜ Answers (seatMessage (rowsOf (catalogue (now (s .entry)))) (seatOf (now (block .entry))) (now (m .entry))) r (now (block .exit)) (now (reply .entry)) (now (reply .exit)) ⌝ }
+{
+    let Asking::Asked(q) = requests::read(m) else {
+        return refuse(reply, msg, 9);
+    };
+    let handle = q.handle;
+    let size = q.size;
+    if !is_open(block, handle) {
+        return refuse(reply, msg, 10);
+    }
+    let at = cursor_at(handle);
+    let end = at + sessions::CURSOR_SIZE;
+    let refusal = fetching::fetch(&mut block[at..end], q, s, places, reply);
+    if refusal != 0 {
+        return refuse(reply, msg, refusal);
+    }
+    Answered {
+        refusal: 0,
+        count: size,
+    }
+}
+
 // A message on its seat's block.
-pub fn answer(block: &mut [u32], m: &[u8], reply: &mut [u8]) -> Answered
-    requires { ⌜ Given (now block) (now m) (now reply) ⌝ }
-    ensures { λ r. ⌜ Answers (seatMessage (seatOf (now (block .entry))) (now (m .entry))) r (now (block .exit)) (now (reply .entry)) (now (reply .exit)) ⌝ }
+pub fn answer(block: &mut [u32], m: &[u8], s: &[u8], places: &[u32], reply: &mut [u8]) -> Answered
+    requires { ⌜ Given (now block) (now m) (now reply) × Sourced (now block) (now s) (now places) ⌝ }
+    ensures { λ r. ⌜ Answers (seatMessage (rowsOf (catalogue (now (s .entry)))) (seatOf (now (block .entry))) (now (m .entry))) r (now (block .exit)) (now (reply .entry)) (now (reply .exit)) ⌝ }
 {
     let msg = words::word(m, 0);
     let kind = kind(msg);
@@ -248,6 +255,9 @@ pub fn answer(block: &mut [u32], m: &[u8], reply: &mut [u8]) -> Answered
     }
     if kind == 1 {
         return free(block, m, reply, msg);
+    }
+    if kind == 2 {
+        return fetch(block, m, s, places, reply, msg);
     }
     bind(block, m, reply, msg)
 }

@@ -5,7 +5,7 @@ use mathlib.Core.Option.{Option}
 use Prim.Native.Nat.{ℕ, zero, suc}
 use native.Mathlib.Omega.{arith}
 use Rattle.sessions.specs.Seat.{Seat}
-use Rattle.messages.specs.Refusal.{firstCause}
+use Rattle.refusals.specs.Refusal.{firstCause}
 use Rattle.opening.specs.Open.{openCauses}
 use Rattle.opening.specs.Answer.{Judged}
 use Rattle.opening.specs.declared.Opened.{Opened}

@@ -24,7 +24,7 @@ use Rattle.sessions.specs.Layout.{cursorSize, rowsSize, put}
 use Rattle.sessions.specs.Seat.{Seat, zeros, cursorBlock, seatIn, seatOf, opened}
 use Rattle.sessions.proofs.Tables.{put-length}
 use Rattle.sessions.proofs.Writes.{opened-block}
-use Rattle.messages.specs.Refusal.{firstCause}
+use Rattle.refusals.specs.Refusal.{firstCause}
 use Rattle.messages.specs.Message.{isOpen}
 use Rattle.opening.specs.Open.{freeHandle, openCauses}
 use Rattle.opening.specs.Answer.{handleFor, Judged}

@@ -4,7 +4,7 @@ use mathlib.Core.List.{List}
 use mathlib.Core.Option.{Option, none, some}
 use Prim.Native.Nat.{ℕ}
 use Rattle.sessions.specs.Seat.{Seat}
-use Rattle.messages.specs.Refusal.{firstCause}
+use Rattle.refusals.specs.Refusal.{firstCause}
 use Rattle.opening.specs.Open.{freeHandle, openCauses}
 use Rattle.opening.specs.declared.Opened.{Opened}
 

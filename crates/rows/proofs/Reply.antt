@@ -14,8 +14,8 @@ use Rattle.columns.specs.declared.Column.{Column}
 use Rattle.words.specs.Word.{le}
 use Rattle.spans.specs.Each.{Each, Pairwise}
 use Rattle.spans.specs.Laid.{Laid, endOf, Inside, Clear, Outside, part, cleared, fourWords, header, lays}
-use Rattle.spans.proofs.Lays.{each-map, lays-length, lays-outside, lays-read}
-use Rattle.rows.specs.Page.{allBlocks, rowsSpans, rowsMessage, pageSpans, page}
+use Rattle.spans.proofs.Lays.{each-map, lays-length, lays-outside, lays-read, lays-front}
+use Rattle.rows.specs.Page.{allBlocks, rowsSpans, rowsMessage, pageSpans, pageBytes, page}
 use Rattle.rows.specs.Ready.{needed}
 use Rattle.rows.proofs.Steps.{needs-are}
 use Rattle.rows.proofs.Parts.{good}
@@ -74,6 +74,20 @@ module _ (size from width base status : ℕ) (columns : List Column) (rows : Lis
       after a h =
           each-map (λ b. (from ≤ b .place) × (endOf b ≤ size)) (Clear a) (rowsSpans base width from size columns rows) (λ b p. inl (omega arith))
           (rows-lie base width columns (good width columns fits) rows from size needed-fits)
+
+  in-reply : Each (Inside (length {A = ℕ} (replicate size 0))) (pageSpans size from width base status columns rows)
+  in-reply =
+      each-map (Inside size) (Inside (length {A = ℕ} (replicate size 0))) (pageSpans size from width base status columns rows)
+      (λ a h. omega (arith, length-replicate {A = ℕ} size 0)) page-inside
+
+  -- "The reply is B bytes", and a buffer has it before the bytes that are unchanged
+  pub bytes-length : length (pageBytes size from width base status columns rows) ≡ size
+  unfolding pageBytes
+  bytes-length = lays-length (replicate size 0) (pageSpans size from width base status columns rows) in-reply ∙ length-replicate size 0
+
+  pub page-is : (t : List ℕ) → page size from width base status columns rows t ≡ pageBytes size from width base status columns rows ++ drop size t
+  unfolding page pageBytes
+  page-is t = lays-front (replicate size 0) (drop size t) (pageSpans size from width base status columns rows) in-reply
 
   module _ (t : List ℕ) (long : size ≤ length t) where
     in-buffer : Each (Inside (length (cleared size t))) (pageSpans size from width base status columns rows)

@@ -2,7 +2,7 @@
 use mathlib.Core.List.{List, [], _∷_, _++_, map}
 use Prim.Native.Nat.{ℕ, zero, suc, _+_, _-_, _*_, _≤_}
 use lib.Dec.{leb, eqb}
-use lib.ListN.{length, getD, take}
+use lib.ListN.{length, getD, take, replicate}
 use Rattle.words.specs.Below.{pick}
 use Rattle.catalogue.specs.Plain.{Row}
 use Rattle.catalogue.specs.Places.{rowSeen}
@@ -59,7 +59,12 @@ abbrev pub pageSpans : ℕ → ℕ → ℕ → ℕ → ℕ → List Column → L
 pageSpans size from width base status columns rows =
     headSpans status (length rows) ++ rowsSpans base width from size columns rows
 
--- "The reply is B bytes: header, .., then rows from R .. All bytes not named are zero; those past B are unchanged."
+-- "The reply is B bytes: header, .., then rows from R .. All bytes not named are zero"
+unfoldable pub pageBytes : ℕ → ℕ → ℕ → ℕ → ℕ → List Column → List Row → List ℕ
+pageBytes size from width base status columns rows =
+    lays (replicate size 0) (pageSpans size from width base status columns rows)
+
+-- the same in a buffer: "those past B are unchanged"
 unfoldable pub page : ℕ → ℕ → ℕ → ℕ → ℕ → List Column → List Row → List ℕ → List ℕ
 page size from width base status columns rows t = lays (cleared size t) (pageSpans size from width base status columns rows)
 

@@ -77,7 +77,7 @@ rows-few s = by-test (leb (length s) bytesMost) (λ q. rw q (go (readingAt rowsM
 
 -- a catalogue that was checked
 module _ (s : List ℕ) (rows : ℕ) (held : List ℕ) (n : Noted s rows held) where
-  well-formed : accepted s ≡ true
+  pub well-formed : accepted s ≡ true
   well-formed = rw (n .well)
 
   pub counted : length (places s) ≡ rows
@@ -86,7 +86,7 @@ module _ (s : List ℕ) (rows : ℕ) (held : List ℕ) (n : Noted s rows held) w
   pub few : rows ≤ rowsMost
   few = omega (arith, ap (λ (c : Checked). c .rows) (n .well), rows-few s)
 
-  noted-at : (i : ℕ) → i < rows → getD held i 0 ≡ getD (places s) i 0
+  pub noted-at : (i : ℕ) → i < rows → getD held i 0 ≡ getD (places s) i 0
   noted-at i h = sym (getD-take rows held i 0 h) ∙ ap (λ (p : List ℕ). getD p i 0) (n .noted)
 
   pub stands : (i : ℕ) → i < rows → Stands s (getD held i 0)

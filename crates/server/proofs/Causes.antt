@@ -13,8 +13,8 @@ use Rattle.catalogue.specs.Places.{checked, places, noted, rowSeen}
 use Rattle.catalogue.proofs.Agree.{accepted, catalogue-agrees, rows-counted}
 use Rattle.sessions.specs.Layout.{seats}
 use Rattle.sessions.specs.Well.{tableWell, tableBelow}
-use Rattle.messages.specs.Refusal.{firstCause}
-use Rattle.messages.proofs.First.{Numbered}
+use Rattle.refusals.specs.Refusal.{firstCause}
+use Rattle.refusals.proofs.First.{Numbered}
 use Rattle.server.specs.Step.{Sources, sourcesOf, rowsHold, judging}
 use Rattle.server.specs.Judgement.{Judgement}
 

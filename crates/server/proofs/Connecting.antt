@@ -7,9 +7,9 @@ use Prim.Native.Nat.{ℕ}
 use native.Mathlib.Omega.{arith}
 use borrow.Author.Tests.{ne-eqb}
 use Rattle.sessions.specs.Seat.{fresh}
-use Rattle.messages.specs.Refusal.{firstCause}
+use Rattle.refusals.specs.Refusal.{firstCause}
 use Rattle.server.specs.Step.{Sources, Outcome, Keeps, quiet, judging, seatHeld, isConnected, seated, connectCauses, connectStep}
-use Rattle.messages.proofs.First.{first-stop, first-go}
+use Rattle.refusals.proofs.First.{first-stop, first-go}
 use Rattle.server.proofs.Causes.{judging-numbered}
 
 -- an outcome of which nothing is written

@@ -6,3 +6,4 @@ pub mod Opening
 pub mod Passing
 pub mod Once
 pub mod Unchanged
+pub mod Sourcing

@@ -8,11 +8,12 @@ use borrow.Author.Tests.{ne-eqb, lt-ltb, le-ltb, le-leb, lt-leb}
 use lib.ListN.{length}
 use Rattle.words.specs.Checksum.{messageSized}
 use Rattle.sessions.specs.Layout.{seatSize, seatAt, put}
-use Rattle.messages.specs.Refusal.{firstCause}
+use Rattle.fetching.specs.Ready.{rowsOf}
+use Rattle.refusals.specs.Refusal.{firstCause}
 use Rattle.messages.specs.Message.{seatMessage}
 use Rattle.messages.specs.Answers.{Answers}
 use Rattle.messages.specs.declared.Answered.{Answered}
-use Rattle.messages.proofs.First.{first-stop, first-go}
+use Rattle.refusals.proofs.First.{first-stop, first-go}
 use Rattle.server.specs.Step.{Sources, Keeps, judging, seatHeld, sizing, messageStep}
 use Rattle.server.proofs.Causes.{judging-numbered}
 use Rattle.server.proofs.Seating.{seated-is}
@@ -45,7 +46,7 @@ module _ (src : Sources) (t : List ℕ) (seat : ℕ) (m : List ℕ) (entry : Lis
     long-refused r l h = size-refused r (rw (le-leb 16 (length m) l, lt-leb (length m) 16384 h))
 
     pub message-answered : 16384 ≤ length entry → 16 ≤ length m → length m ≤ 16384 → (r : Answered) (block exit : List ℕ)
-        → Answers (seatMessage (seatHeld t seat) m) r block entry exit
+        → Answers (seatMessage (rowsOf (src .rows)) (seatHeld t seat) m) r block entry exit
         → Keeps (messageStep src t seat m (length entry)) (r .refusal) 0 (r .count) (put t (seatAt seat) (seatAt seat + seatSize - seatAt seat) block) entry exit
     unfolding firstCause messageStep
     message-answered h l k r block exit a =
@@ -56,6 +57,6 @@ module _ (src : Sources) (t : List ℕ) (seat : ℕ) (m : List ℕ) (entry : Lis
           refused = a .refused;
           given = refl;
           counted = a .counted;
-          kept = seated-is t seat block (seatMessage (seatHeld t seat) m .after) (a .kept);
+          kept = seated-is t seat block (seatMessage (rowsOf (src .rows)) (seatHeld t seat) m .after) (a .kept);
           written = a .written;
         }

@@ -21,9 +21,9 @@ use Rattle.sessions.specs.Well.{tableWell}
 use Rattle.sessions.specs.Fits.{CursorOk, SeatOk}
 use Rattle.sessions.proofs.Seats.{cursor-block}
 use Rattle.messages.specs.Message.{isOpen}
-use Rattle.messages.specs.Refusal.{firstCause}
+use Rattle.refusals.specs.Refusal.{firstCause}
 use Rattle.messages.proofs.Bodies.{put-handle}
-use Rattle.messages.proofs.First.{first-stop, first-go}
+use Rattle.refusals.proofs.First.{first-stop, first-go}
 use Rattle.opening.specs.Open.{freeHandle, openCauses, openedOn}
 use Rattle.server.specs.Step.{Sources, Keeps, rowsHold, judging, seatHeld, seated, openDone, openStep}
 use Rattle.server.specs.Judgement.{Judgement}

@@ -29,10 +29,11 @@ use Rattle.sessions.specs.Fits.{CursorFits, SeatOk}
 use Rattle.sessions.proofs.Bounds.{every-shown as each-shown}
 use Rattle.sessions.proofs.Seats.{seat-block}
 use Rattle.sessions.proofs.Tables.{same-or-not, seat-same, seat-other, still-well}
-use Rattle.messages.specs.Refusal.{firstCause}
+use Rattle.refusals.specs.Refusal.{firstCause}
+use Rattle.fetching.specs.Ready.{rowsOf}
 use Rattle.messages.specs.Message.{seatMessage}
 use Rattle.messages.proofs.Bodies.{with-fits}
-use Rattle.messages.proofs.First.{first-both}
+use Rattle.refusals.proofs.First.{first-both}
 use Rattle.messages.proofs.Keeping.{message-fits, message-below}
 use Rattle.opening.specs.Open.{freeHandle, openCauses, openedOn}
 use Rattle.server.specs.Step.{Sources, sourcesOf, openDone, openStep, rowsHold, judging, seatHeld, isConnected, seated, sizing, connectCauses, connectStep, messageStep}
@@ -45,7 +46,7 @@ pub record Passing (src : Sources) (t : List ℕ) : Type 0 where
   pub holds : rowsHold (src .rows) t ≡ true
 
 -- a seat of the table, below a bound
-seat-below : (bound : ℕ) (t : List ℕ) → tableBelow bound t ≡ true → (seat : ℕ) → seat < seats → seatBelow bound (seatHeld t seat) ≡ true
+pub seat-below : (bound : ℕ) (t : List ℕ) → tableBelow bound t ≡ true → (seat : ℕ) → seat < seats → seatBelow bound (seatHeld t seat) ≡ true
 unfolding tableBelow
 seat-below bound t e seat h = every-at seats (λ k. seatBelow bound (seatOf (blockOf t k))) e seat h
 
@@ -96,9 +97,9 @@ message-passes src t seat m room p =
     let e = first-both (judging src t seat) (sizing m room) (judging-numbered src t seat) (eqb-true (firstCause (judging src t seat ++ sizing m room)) 0 q) .0 in
     let h = passes src t seat e .seat-in in
     rw q
-    (seated-passes src t p seat h (seatMessage (seatHeld t seat) m .after)
-    (message-fits (seatHeld t seat) m (seat-ok t (p .well) seat h))
-    (λ rows r b. message-below (length rows) (seatHeld t seat) m (seat-below (length rows) t b seat h))))
+    (seated-passes src t p seat h (seatMessage (rowsOf (src .rows)) (seatHeld t seat) m .after)
+    (message-fits (rowsOf (src .rows)) (seatHeld t seat) m (seat-ok t (p .well) seat h))
+    (λ rows r b. message-below (length rows) (rowsOf (src .rows)) (seatHeld t seat) m (seat-below (length rows) t b seat h))))
     (λ q. rw q p)
 
 -- the rows of a catalogue that parses are those that its check counts

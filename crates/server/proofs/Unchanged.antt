@@ -11,11 +11,15 @@ use lib.ListN.{length, take, drop, take-append-drop}
 use Rattle.words.specs.Word.{le}
 use Rattle.words.proofs.Below.{by-test}
 use Rattle.sessions.specs.Layout.{seats, seatSize, seatAt}
-use Rattle.sessions.specs.Seat.{Seat}
+use Rattle.catalogue.specs.Plain.{Row}
+use Rattle.sessions.specs.Seat.{Cursor, Seat, cursorIn}
 use Rattle.sessions.specs.Well.{tableWell}
-use Rattle.messages.specs.Refusal.{firstCause}
-use Rattle.messages.specs.Message.{kindOf, msgOf, seatCauses, doneOn, doneBy, seatMessage}
-use Rattle.messages.proofs.First.{first-both}
+use Rattle.refusals.specs.Refusal.{firstCause}
+use Rattle.requests.specs.Request.{request}
+use Rattle.requests.specs.declared.Request.{Request}
+use Rattle.fetching.specs.Ready.{rowsOf}
+use Rattle.messages.specs.Message.{kindOf, msgOf, handleOf, seatCauses, rowsDone, doneOn, doneBy, seatMessage}
+use Rattle.refusals.proofs.First.{first-both}
 use Rattle.opening.specs.Open.{openCauses}
 use Rattle.server.specs.Step.{Sources, Outcome, judging, seatHeld, seated, sizing, connectCauses, connectStep, messageStep, openDone, openStep}
 use Rattle.server.proofs.Causes.{judging-numbered, passes}
@@ -51,19 +55,31 @@ open-unchanged src t seat tree =
     done (some s) z = absurd (z refl)
 
 -- a message that its seat refuses leaves the seat and writes sixteen bytes
-on-seat : (held : Option Seat) (m : List ℕ) → Refused (seatMessage held m .refusal) → (seatMessage held m .after ≡ held) × (length (seatMessage held m .reply) ≡ 16)
+on-seat : (rows : List Row) (held : Option Seat) (m : List ℕ) → Refused (seatMessage rows held m .refusal)
+    → (seatMessage rows held m .after ≡ held) × (length (seatMessage rows held m .reply) ≡ 16)
 unfolding seatMessage le
-on-seat held m =
-    by-test (eqb (firstCause (seatCauses held m)) 0)
+on-seat rows held m =
+    by-test (eqb (firstCause (seatCauses rows held m)) 0)
     (λ q. rw q (done held))
     (λ q. rw q (λ z. (refl, refl)))
   where
-    done : (s : Option Seat) → Refused (doneBy s m .refusal) → (doneBy s m .after ≡ s) × (length (doneBy s m .reply) ≡ 16)
+    done : (s : Option Seat) → Refused (doneBy rows s m .refusal) → (doneBy rows s m .after ≡ s) × (length (doneBy rows s m .reply) ≡ 16)
     done none z = (refl, refl)
-    done (some s) z = absurd (z (none-refused (kindOf (msgOf m)) s))
+    done (some s) z = absurd (z (none-refused (kindOf (msgOf m)) s sent-rows))
       where
-        none-refused : (kind : ℕ) (s : Seat) → doneOn kind s m .refusal ≡ 0
-        none-refused kind s = by-test (eqb kind 0) (λ q. rw q) (λ q. by-test (eqb kind 1) (λ r. rw (q, r)) (λ r. rw (q, r)))
+        sent-rows : (c : Option Cursor) (q : Option Request) → rowsDone rows s (handleOf m) c q .refusal ≡ 0
+        sent-rows none q = refl
+        sent-rows (some c) none = refl
+        sent-rows (some c) (some q) = refl
+
+        none-refused : (kind : ℕ) (k : Seat) → ((c : Option Cursor) (q : Option Request) → rowsDone rows k (handleOf m) c q .refusal ≡ 0) → doneOn rows kind k m .refusal ≡ 0
+        none-refused kind k f =
+            by-test (eqb kind 0)
+            (λ q. rw q)
+            (λ q.
+            by-test (eqb kind 1)
+            (λ r. rw (q, r))
+            (λ r. by-test (eqb kind 2) (λ l. rw (q, r, l) (f (cursorIn k (handleOf m)) (request m))) (λ l. rw (q, r, l))))
 
 -- a seat put back in its place
 seated-back : (t : List ℕ) → tableWell t ≡ true → (seat : ℕ) → seat < seats → seated t seat (seatHeld t seat) ≡ t
@@ -81,7 +97,7 @@ message-unchanged src t seat m room =
     let e = first-both (judging src t seat) (sizing m room) (judging-numbered src t seat) (eqb-true (firstCause (judging src t seat ++ sizing m room)) 0 q) .0 in
     let p = passes src t seat e in
     rw q (λ z.
-    let same = on-seat (seatHeld t seat) m z in
+    let same = on-seat (rowsOf (src .rows)) (seatHeld t seat) m z in
     record {
       handle = refl;
       words = ap (seated t seat) (same .0) ∙ seated-back t (p .table-in) seat (p .seat-in);

@@ -3,7 +3,7 @@ use mathlib.Core.Path.{_≡_}
 use mathlib.Core.List.{List}
 use Prim.Native.Nat.{ℕ}
 use Rattle.catalogue.specs.Places.{checked, noted}
-use Rattle.messages.specs.Refusal.{firstCause}
+use Rattle.refusals.specs.Refusal.{firstCause}
 use Rattle.server.specs.Step.{sourcesOf, judging}
 use Rattle.server.specs.declared.Judged.{Judged}
 

@@ -12,7 +12,8 @@ use Rattle.catalogue.specs.Plain.{Row, catalogue}
 use Rattle.sessions.specs.Layout.{seatSize, seatAt, put, blockOf}
 use Rattle.sessions.specs.Seat.{Seat, seatBlock, seatOf, fresh}
 use Rattle.sessions.specs.Well.{tableWell, tableBelow}
-use Rattle.messages.specs.Refusal.{firstCause}
+use Rattle.refusals.specs.Refusal.{firstCause}
+use Rattle.fetching.specs.Ready.{rowsOf}
 use Rattle.messages.specs.Message.{SeatOutcome, seatMessage}
 use Rattle.opening.specs.Open.{freeHandle, openCauses, openedOn}
 
@@ -88,7 +89,7 @@ onSeat t seat o = record { refusal = o .refusal; handle = 0; reply = o .reply; w
 unfoldable pub messageStep : Sources → List ℕ → ℕ → List ℕ → ℕ → Outcome
 messageStep src t seat m room =
     pick (eqb (firstCause (judging src t seat ++ sizing m room)) 0)
-    (onSeat t seat (seatMessage (seatHeld t seat) m))
+    (onSeat t seat (seatMessage (rowsOf (src .rows)) (seatHeld t seat) m))
     (quiet (firstCause (judging src t seat ++ sizing m room)) t)
 
 -- opening: 7, 14 and 16 are judged of the seat and the tree; "opening also [returns] the handle (0 if refused)"

@@ -149,5 +149,5 @@ pub fn message(
     }
     let at = sessions::SEAT_SIZE * (k as usize);
     let end = at + sessions::SEAT_SIZE;
-    messages::answer(&mut table[at..end], message, reply)
+    messages::answer(&mut table[at..end], message, catalogue, &places, reply)
 }

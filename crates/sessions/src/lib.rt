@@ -28,15 +28,15 @@ const VERSION: usize = 1;
 
 const OPEN: usize = 0;
 
-const POSITION: usize = 1;
+pub const POSITION: usize = 1;
 
-const COUNT: usize = 2;
+pub const COUNT: usize = 2;
 
-const COLUMNS: usize = 3;
+pub const COLUMNS: usize = 3;
 
-const WIDTH: usize = 4;
+pub const WIDTH: usize = 4;
 
-const RECORDS: usize = 5;
+pub const RECORDS: usize = 5;
 
 pub const ROWS: usize = 50;
 

@@ -1,12 +1,13 @@
 -- Laws of spans laid one after the other: where no two of them meet, each is read back and every other byte is as it was.
 -- Assumes nothing.
 use mathlib.Core.Path.{_≡_, refl, sym, ap, _∙_}
-use mathlib.Core.List.{List, [], _∷_, _++_}
+use mathlib.Core.List.{List, [], _∷_, _++_, append-assoc}
 use mathlib.Core.Logic.{_⊎_, inl, inr, ⊎-elim}
 use Prim.Native.Nat.{ℕ, zero, suc, _+_, _≤_, _<_}
 use native.Mathlib.Nat.{not-suc-le-zero, le-of-suc-le-suc}
 use native.Mathlib.Omega.{arith}
-use lib.ListN.{length, getD}
+use lib.ListN.{length, getD, take, drop}
+use lib.Seq.{take-append-le, drop-append-le}
 use Rattle.spans.specs.Each.{Each, Pairwise}
 use Rattle.spans.specs.Laid.{lay, Laid, lays, endOf, Inside, Clear, Outside, part}
 use Rattle.spans.proofs.Lay.{lay-length, lay-outside, lay-read, lay-other, lay-comm}
@@ -96,3 +97,16 @@ lays-past t a (b ∷ s) h e c =
   where
     swap : Clear a b → Clear b a
     swap w = ⊎-elim (λ (l : endOf a ≤ b .place). inr l) (λ (l : endOf b ≤ a .place). inl l) w
+
+-- what lies in the first of two lists leaves the second as it is
+lay-front : (t u : List ℕ) (at : ℕ) (b : List ℕ) → at + length b ≤ length t → lay (t ++ u) at b ≡ lay t at b ++ u
+unfolding lay
+lay-front t u at b h =
+    rw (take-append-le at t u (omega arith), drop-append-le (at + length b) t u h, append-assoc (take at t) (b ++ drop (at + length b) t) u, append-assoc b (drop (at + length b) t) u)
+
+pub lays-front : (t u : List ℕ) (s : List Laid) → Each (Inside (length t)) s → lays (t ++ u) s ≡ lays t s ++ u
+unfolding lays
+lays-front t u [] e = refl
+lays-front t u (a ∷ s) e =
+    ap (λ (x : List ℕ). lays x s) (lay-front t u (a .place) (a .bytes) (first t a s e))
+    ∙ lays-front (lay t (a .place) (a .bytes)) u s (others t a s e)

@@ -59,8 +59,8 @@ fn byte_or_zero(s: &[u8], at: usize) -> u32
     0
 }
 
-// The last word, which may be short.
-fn last_word(s: &[u8], at: usize) -> u32
+// The last word, which may be short: bytes past the end count as zero.
+pub fn last_word(s: &[u8], at: usize) -> u32
     requires { ⌜ at ≤ length (now s) ⌝ }
     ensures { λ r. ⌜ r ≡ numberAt 4 (now (s .entry)) at ⌝ }
 {

@@ -25,12 +25,12 @@ same-length : tie.Need-same-length
 same-length c = search needs
 
 returns : tie.Need-returns
-returns c =
+returns c = λ rows.
     let a = c .before .before .before .before .before .before .before .before .before .before .before in
     let b = a .args .block .now in
     let m = a .args .m .now in
-    refused-answers b m (a .args .reply .now) _ (a .args .msg) 9 _ (block-is b m (a .args .reply .now) (a .pre .given)) (a .pre .msg-is)
-    (body-refused b m (a .args .reply .now) (a .args .msg) 2 (a .pre) 9 (not-read b m (a .args .reply .now) (a .args .msg) (a .pre) (told-none m _ _ (c .before .before .before .before .before .before .read .ensures) (c .before .before .before .before .if1 .taken))) (λ z. omega arith))
+    refused-answers rows b m (a .args .reply .now) _ (a .args .msg) 9 _ (block-is b m (a .args .reply .now) (a .pre .given)) (a .pre .msg-is)
+    (body-refused b m (a .args .reply .now) (a .args .msg) 3 (a .pre) rows 9 (not-read b m (a .args .reply .now) (a .args .msg) (a .pre) rows (told-none m _ _ (c .before .before .before .before .before .before .read .ensures) (c .before .before .before .before .if1 .taken))) (λ z. omega arith))
     (c .before .before .refuse .ensures .0)
     (c .before .before .refuse .ensures .1)
 
@@ -47,13 +47,13 @@ same-length-3 : tie.Need-same-length-3
 same-length-3 c = search needs
 
 returns-2 : tie.Need-returns-2
-returns-2 c =
+returns-2 c = λ rows.
     let a = c .before .before .before .before .before .before .before .before .before .before .before .before .before .before in
     let b = a .args .block .now in
     let m = a .args .m .now in
     let x = told-some m _ _ (c .before .before .before .before .before .before .before .before .before .read .ensures) (c .before .before .before .before .before .before .before .if1 .left) in
-    refused-answers b m (a .args .reply .now) _ (a .args .msg) 10 _ (block-is b m (a .args .reply .now) (a .pre .given)) (a .pre .msg-is)
-    (body-refused b m (a .args .reply .now) (a .args .msg) 2 (a .pre) 10 (not-opened b m (a .args .reply .now) (a .args .msg) (a .pre) (x .0) (x .1 .is) (ap (λ (h : ℕ). isOpen (cursorIn (seatIn b) h)) (sym (x .1 .handle)) ∙ sym (c .before .before .before .before .before .is-open .ensures) ∙ not-true _ (c .before .before .before .before .if2 .taken))) (λ z. omega arith))
+    refused-answers rows b m (a .args .reply .now) _ (a .args .msg) 10 _ (block-is b m (a .args .reply .now) (a .pre .given)) (a .pre .msg-is)
+    (body-refused b m (a .args .reply .now) (a .args .msg) 3 (a .pre) rows 10 (not-opened b m (a .args .reply .now) (a .args .msg) (a .pre) rows (x .0) (x .1 .is) (ap (λ (h : ℕ). isOpen (cursorIn (seatIn b) h)) (sym (x .1 .handle)) ∙ sym (c .before .before .before .before .before .is-open .ensures) ∙ not-true _ (c .before .before .before .before .if2 .taken))) (λ z. omega arith))
     (c .before .before .refuse2 .ensures .0)
     (c .before .before .refuse2 .ensures .1)
 
@@ -73,13 +73,13 @@ same-length-5 : tie.Need-same-length-5
 same-length-5 c = search needs
 
 returns-3 : tie.Need-returns-3
-returns-3 c =
+returns-3 c = λ rows.
     let a = c .before .before .before .before .before .before .before .before .before .before .before .before .before .before .before .before .before in
     let b = a .args .block .now in
     let m = a .args .m .now in
     let x = told-some m _ _ (c .before .before .before .before .before .before .before .before .before .before .before .before .read .ensures) (c .before .before .before .before .before .before .before .before .before .before .if1 .left) in
-    refused-answers b m (a .args .reply .now) _ (a .args .msg) 12 _ (block-is b m (a .args .reply .now) (a .pre .given)) (a .pre .msg-is)
-    (body-refused b m (a .args .reply .now) (a .args .msg) 2 (a .pre) 12 (not-fit b m (a .args .reply .now) (a .args .msg) (a .pre) (x .0) (x .1 .is) (ap (λ (h : ℕ). isOpen (cursorIn (seatIn b) h)) (sym (x .1 .handle)) ∙ sym (c .before .before .before .before .before .before .before .before .is-open .ensures) ∙ not-false _ (c .before .before .before .before .before .before .before .if2 .left))
+    refused-answers rows b m (a .args .reply .now) _ (a .args .msg) 12 _ (block-is b m (a .args .reply .now) (a .pre .given)) (a .pre .msg-is)
+    (body-refused b m (a .args .reply .now) (a .args .msg) 3 (a .pre) rows 12 (not-fit b m (a .args .reply .now) (a .args .msg) (a .pre) rows (x .0) (x .1 .is) (ap (λ (h : ℕ). isOpen (cursorIn (seatIn b) h)) (sym (x .1 .handle)) ∙ sym (c .before .before .before .before .before .before .before .before .is-open .ensures) ∙ not-false _ (c .before .before .before .before .before .before .before .if2 .left))
     (sym (told-fit m _ _ (x .0) (c .before .before .before .before .before .before .before .before .before .before .before .before .read .ensures) (x .1 .is)) ∙ sym (c .before .before .before .before .before .fit .ensures) ∙ not-true _ (c .before .before .before .before .if3 .taken))) (λ z. omega arith))
     (c .before .before .refuse3 .ensures .0)
     (c .before .before .refuse3 .ensures .1)
@@ -100,12 +100,12 @@ same-length-7 : tie.Need-same-length-7
 same-length-7 c = search needs
 
 returns-4 : tie.Need-returns-4
-returns-4 c =
+returns-4 c = λ rows.
     let a = c .before .before .before .before .before .before .before .before .before .before .before .before .before .before .before .before .before .before .before .before .before .before in
     let b = a .args .block .now in
     let m = a .args .m .now in
     let x = told-some m _ _ (c .before .before .before .before .before .before .before .before .before .before .before .before .before .before .before .before .before .read .ensures) (c .before .before .before .before .before .before .before .before .before .before .before .before .before .before .before .if1 .left) in
-    bound-answers b m (a .args .reply .now) (a .args .msg) (a .pre) (x .0) (x .1 .is) (ap (λ (h : ℕ). isOpen (cursorIn (seatIn b) h)) (sym (x .1 .handle)) ∙ sym (c .before .before .before .before .before .before .before .before .before .before .before .before .before .is-open .ensures) ∙ not-false _ (c .before .before .before .before .before .before .before .before .before .before .before .before .if2 .left))
+    bound-answers b m (a .args .reply .now) (a .args .msg) (a .pre) rows (x .0) (x .1 .is) (ap (λ (h : ℕ). isOpen (cursorIn (seatIn b) h)) (sym (x .1 .handle)) ∙ sym (c .before .before .before .before .before .before .before .before .before .before .before .before .before .is-open .ensures) ∙ not-false _ (c .before .before .before .before .before .before .before .before .before .before .before .before .if2 .left))
     (sym (told-fit m _ _ (x .0) (c .before .before .before .before .before .before .before .before .before .before .before .before .before .before .before .before .before .read .ensures) (x .1 .is)) ∙ sym (c .before .before .before .before .before .before .before .before .before .before .fit .ensures) ∙ not-false _ (c .before .before .before .before .before .before .before .before .before .if3 .left))
     _
     _

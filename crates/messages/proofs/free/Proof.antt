@@ -23,12 +23,12 @@ same-length : tie.Need-same-length
 same-length c = search needs
 
 returns : tie.Need-returns
-returns c =
+returns c = λ rows.
     let a = c .before .before .before .before .before .before .before .before in
     let b = a .args .block .now in
     let m = a .args .m .now in
-    refused-answers b m (a .args .reply .now) _ (a .args .msg) 9 _ (block-is b m (a .args .reply .now) (a .pre .given)) (a .pre .msg-is)
-    (body-refused b m (a .args .reply .now) (a .args .msg) 1 (a .pre) 9 (not-four b m (a .args .reply .now) (a .args .msg) (a .pre) (c .before .before .before .before .if1 .taken)) (λ z. omega arith))
+    refused-answers rows b m (a .args .reply .now) _ (a .args .msg) 9 _ (block-is b m (a .args .reply .now) (a .pre .given)) (a .pre .msg-is)
+    (body-refused b m (a .args .reply .now) (a .args .msg) 1 (a .pre) rows 9 (not-four b m (a .args .reply .now) (a .args .msg) (a .pre) rows (c .before .before .before .before .if1 .taken)) (λ z. omega arith))
     (c .before .before .refuse .ensures .0)
     (c .before .before .refuse .ensures .1)
 
@@ -48,12 +48,12 @@ same-length-3 : tie.Need-same-length-3
 same-length-3 c = search needs
 
 returns-2 : tie.Need-returns-2
-returns-2 c =
+returns-2 c = λ rows.
     let a = c .before .before .before .before .before .before .before .before .before .before .before .before in
     let b = a .args .block .now in
     let m = a .args .m .now in
-    refused-answers b m (a .args .reply .now) _ (a .args .msg) 10 _ (block-is b m (a .args .reply .now) (a .pre .given)) (a .pre .msg-is)
-    (body-refused b m (a .args .reply .now) (a .args .msg) 1 (a .pre) 10 (not-open b m (a .args .reply .now) (a .args .msg) (a .pre) (c .before .before .before .before .before .before .before .before .if1 .left)
+    refused-answers rows b m (a .args .reply .now) _ (a .args .msg) 10 _ (block-is b m (a .args .reply .now) (a .pre .given)) (a .pre .msg-is)
+    (body-refused b m (a .args .reply .now) (a .args .msg) 1 (a .pre) rows 10 (not-open b m (a .args .reply .now) (a .args .msg) (a .pre) rows (c .before .before .before .before .before .before .before .before .if1 .left)
     (ap (λ (h : ℕ). isOpen (cursorIn (seatIn b) h)) (sym (c .before .before .before .before .before .before .before .word .ensures)) ∙ sym (c .before .before .before .before .before .is-open .ensures) ∙ not-true _ (c .before .before .before .before .if2 .taken))) (λ z. omega arith))
     (c .before .before .refuse2 .ensures .0)
     (c .before .before .refuse2 .ensures .1)
@@ -80,10 +80,10 @@ same-length-5 : tie.Need-same-length-5
 same-length-5 c = search needs
 
 returns-3 : tie.Need-returns-3
-returns-3 c =
+returns-3 c = λ rows.
     let a = c .before .before .before .before .before .before .before .before .before .before .before .before .before .before .before .before .before .before .before .before .before .before in
     let b = a .args .block .now in
-    freed-answers b (a .args .m .now) (a .args .reply .now) (a .args .msg) (a .pre) (c .before .before .before .before .before .before .before .before .before .before .before .before .before .before .before .before .before .before .if1 .left)
+    freed-answers b (a .args .m .now) (a .args .reply .now) (a .args .msg) (a .pre) rows (c .before .before .before .before .before .before .before .before .before .before .before .before .before .before .before .before .before .before .if1 .left)
     (ap (λ (h : ℕ). isOpen (cursorIn (seatIn b) h)) (sym (c .before .before .before .before .before .before .before .before .before .before .before .before .before .before .before .before .before .word .ensures)) ∙ sym (c .before .before .before .before .before .before .before .before .before .before .before .before .before .before .before .is-open .ensures) ∙ not-false _ (c .before .before .before .before .before .before .before .before .before .before .before .before .before .before .if2 .left))
     _
     _

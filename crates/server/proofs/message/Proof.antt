@@ -2,17 +2,21 @@
 use borrow.Author.Needs.{needs}
 use Rattle.server.proofs.message.Statement.{statement}
 use Rattle.server.proofs.message.Tie as tie
-use mathlib.Core.Path.{sym, ap, _∙_}
-use native.Mathlib.Omega.{arith}
-use Prim.Native.Nat.{_*_}
-use lib.ListN.{length}
-use Rattle.sessions.specs.Layout.{seatSize}
-use Rattle.sessions.specs.Well.{seatWell}
-use Rattle.sessions.proofs.Judging.{part-is}
-use Rattle.sessions.proofs.Tables.{table-length, table-seat, block-size}
-use Rattle.server.specs.Step.{sourcesOf}
-use Rattle.server.proofs.Causes.{passes}
+use Rattle.server.proofs.Sourcing.{noted-length}
+use lib.ListN.{length-replicate}
+use Rattle.server.proofs.Sourcing.{sourced}
+use Rattle.server.proofs.Opening.{places-noted}
 use Rattle.server.proofs.Messaging.{message-judged, room-refused, short-refused, long-refused, message-answered}
+use Rattle.server.proofs.Causes.{passes}
+use Rattle.server.specs.Step.{sourcesOf}
+use Rattle.sessions.proofs.Tables.{table-length, table-seat, block-size}
+use Rattle.sessions.proofs.Judging.{part-is}
+use Rattle.sessions.specs.Well.{seatWell}
+use Rattle.sessions.specs.Layout.{seatSize}
+use lib.ListN.{length}
+use Prim.Native.Nat.{ℕ, _*_}
+use native.Mathlib.Omega.{arith}
+use mathlib.Core.Path.{sym, ap, _∙_}
 
 judge-requires : tie.Need-judge-requires
 judge-requires c κs = search needs
@@ -77,19 +81,28 @@ part-answer-end c =
     let p = passes (sourcesOf (a .catalogue .now)) (a .table .now) (a .seat .0) e in
     omega (arith, p .seat-in, table-length (a .table .now) (p .table-in))
 
+slice-aggregate-answer : tie.Need-slice-aggregate-answer
+slice-aggregate-answer c = sym (noted-length _ _ _ _ _ _ (c .before .before .before .before .before .before .judge .ensures) (c .before .before .before .before .before .if1 .left) (length-replicate {A = ℕ} 1024 0))
+
 answer-requires : tie.Need-answer-requires
 answer-requires c κs =
-    let a = c .before .before .before .before .before .before .before .before .before .before .before .before .before .args in
-    let e = sym (c .before .before .before .before .before .before .judge .ensures .refused) ∙ c .before .before .before .before .before .if1 .left in
+    let a = c .before .before .before .before .before .before .before .before .before .before .before .before .before .before .args in
+    let j = c .before .before .before .before .before .before .before .judge .ensures in
+    let z = c .before .before .before .before .before .before .if1 .left in
+    let e = sym (j .refused) ∙ z in
     let t = a .table .now in
-    let p = passes (sourcesOf (a .catalogue .now)) t (a .seat .0) e in
-    record {
-      size = ap length (part-is t (seatSize * a .seat .0) seatSize) ∙ block-size t (table-length t (p .table-in)) (a .seat .0) (p .seat-in);
-      well = ap seatWell (part-is t (seatSize * a .seat .0) seatSize) ∙ table-seat t (p .table-in) (a .seat .0) (p .seat-in);
-      least = c .before .before .before .if3 .left;
-      most = c .before .before .if4 .left;
-      room = c .before .before .before .before .if2 .left;
-    }
+    let s = a .catalogue .now in
+    let p = passes (sourcesOf s) t (a .seat .0) e in (
+      record {
+        size = ap length (part-is t (seatSize * a .seat .0) seatSize) ∙ block-size t (table-length t (p .table-in)) (a .seat .0) (p .seat-in);
+        well = ap seatWell (part-is t (seatSize * a .seat .0) seatSize) ∙ table-seat t (p .table-in) (a .seat .0) (p .seat-in);
+        least = c .before .before .before .before .if3 .left;
+        most = c .before .before .before .if4 .left;
+        room = c .before .before .before .before .before .if2 .left;
+      },
+      sourced s t (a .seat .0) _ _ (p .seat-in) (p .rows-in)
+          (places-noted s t _ _ (a .seat .0) _ j z (p .rows-in) (omega (arith, length-replicate {A = ℕ} 1024 0))),
+    )
 
 same-length-5 : tie.Need-same-length-5
 same-length-5 c = search needs
@@ -99,9 +112,9 @@ same-length-6 c = search needs
 
 returns-5 : tie.Need-returns-5
 returns-5 c =
-    let a = c .before .before .before .before .before .before .before .before .before .before .before .before .before .before .before .before .before .before .args in
-    let e = sym (c .before .before .before .before .before .before .before .before .before .before .before .judge .ensures .refused) ∙ c .before .before .before .before .before .before .before .before .before .before .if1 .left in
-    message-answered (sourcesOf (a .catalogue .now)) (a .table .now) (a .seat .0) (a .message .now) (a .reply .now) e (c .before .before .before .before .before .before .before .before .before .if2 .left) (c .before .before .before .before .before .before .before .before .if3 .left) (c .before .before .before .before .before .before .before .if4 .left) _ _ _
+    let a = c .before .before .before .before .before .before .before .before .before .before .before .before .before .before .before .before .before .before .before .args in
+    let e = sym (c .before .before .before .before .before .before .before .before .before .before .before .before .judge .ensures .refused) ∙ c .before .before .before .before .before .before .before .before .before .before .before .if1 .left in
+    message-answered (sourcesOf (a .catalogue .now)) (a .table .now) (a .seat .0) (a .message .now) (a .reply .now) e (c .before .before .before .before .before .before .before .before .before .before .if2 .left) (c .before .before .before .before .before .before .before .before .before .if3 .left) (c .before .before .before .before .before .before .before .before .if4 .left) _ _ _
     (rw (part-is (a .table .now) (seatSize * a .seat .0) seatSize) at (c .before .before .before .before .answer .ensures))
 
 pub message-spec : {M : Type 1} → statement M
@@ -124,6 +137,7 @@ message-spec =
     sub-answer
     part-answer-start
     part-answer-end
+    slice-aggregate-answer
     answer-requires
     same-length-5
     same-length-6

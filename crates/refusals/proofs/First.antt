@@ -2,9 +2,9 @@
 use mathlib.Core.Path.{_≡_, refl, sym}
 use mathlib.Core.Bool.{Bool}
 use mathlib.Core.List.{List, [], _∷_, _++_}
-use Prim.Native.Nat.{ℕ}
+use Prim.Native.Nat.{ℕ, _<_}
 use Rattle.words.proofs.Below.{by-test}
-use Rattle.messages.specs.Refusal.{firstCause}
+use Rattle.refusals.specs.Refusal.{firstCause}
 
 -- a cause that applies among the first of a list is the list's
 pub first-stop : (a b : List (ℕ × Bool)) (n : ℕ) → firstCause a ≡ n → (n ≡ 0 → ⊥) → firstCause (a ++ b) ≡ n
@@ -37,3 +37,13 @@ first-both (c ∷ a) b n e =
     by-test (c .1)
     (λ q. absurd (n .0 (rw q at e)))
     (λ q. rw q (first-both a b (n .1) (rw q at e)))
+
+-- every number of a list is below a bound, and so is the first that applies
+abbrev pub Under : ℕ → List (ℕ × Bool) → Type 0
+Under n [] = Unit {0}
+Under n (c ∷ a) = (c .0 < n) × Under n a
+
+pub first-under : (n : ℕ) (a : List (ℕ × Bool)) → 0 < n → Under n a → firstCause a < n
+unfolding firstCause
+first-under n [] z u = z
+first-under n (c ∷ a) z u = by-test (c .1) (λ q. rw q (u .0)) (λ q. rw q (first-under n a z (u .1)))

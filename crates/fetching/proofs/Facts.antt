@@ -1,0 +1,119 @@
+-- What an open cursor's words are known to be before rows are fetched. Assumes nothing.
+use mathlib.Core.Path.{_≡_, refl, sym, ap, ap₂, subst, _∙_}
+use mathlib.Core.Bool.{Bool, true}
+use mathlib.Core.List.{List, [], _∷_, _++_, map}
+use mathlib.Core.Logic.{⊎-elim}
+use mathlib.Core.Option.{some}
+use Prim.Native.Nat.{ℕ, zero, suc, _+_, _-_, _≤_, _<_}
+use native.Mathlib.Nat.{not-suc-le-zero, le-of-suc-le-suc}
+use native.Mathlib.Omega.{arith}
+use borrow.Author.Tests.{leb-true, ltb-true, eq-eqb}
+use lib.Dec.{leb, ltb, eqb}
+use lib.ListN.{length, getD, take, drop, length-drop}
+use lib.Seq.{take-take, take-all, drop-drop}
+use Rattle.words.specs.Below.{both}
+use Rattle.words.proofs.Below.{both-left, both-right, true≢false}
+use Rattle.catalogue.specs.Plain.{Row, catalogue}
+use Rattle.catalogue.specs.Places.{rowSeen}
+use Rattle.columns.specs.Column.{columnsMost}
+use Rattle.columns.specs.Each.{every}
+use Rattle.columns.specs.Property.{within}
+use Rattle.columns.specs.Fit.{rowMost, columnsFit, fit}
+use Rattle.sessions.specs.Layout.{cursorSize, rowsSize, recordsAt, recordsSize, part}
+use Rattle.sessions.specs.Seat.{Cursor, cursorBlock, cursorHeld}
+use Rattle.sessions.proofs.Seats.{cursor-block}
+use Rattle.sessions.proofs.Tables.{part-length}
+use Rattle.columns.proofs.Sound.{fit-sound}
+use Rattle.refusals.specs.Refusal.{firstCause}
+use Rattle.requests.specs.declared.Request.{Request}
+use Rattle.rows.specs.Page.{rowsAt, returned}
+use Rattle.rows.specs.Ready.{Words}
+use Rattle.fetching.specs.Fetch.{numbered, remaining, earlyCauses, sent}
+use Rattle.fetching.specs.Ready.{rowsOf, Placed, FetchReady}
+
+-- a part of a list's first members is a part of the list
+pub part-of-first : (p n count : ℕ) (t : List ℕ) → p + n ≤ count → take n (drop p (take count t)) ≡ take n (drop p t)
+part-of-first zero n count t h = take-take n count t (omega arith)
+part-of-first (suc p) n zero t h = absurd (omega arith)
+part-of-first (suc p) n (suc count) [] h = refl
+part-of-first (suc p) n (suc count) (a ∷ t) h = part-of-first p n count t (omega arith)
+
+every-drop : (test : ℕ → Bool) (n : ℕ) (t : List ℕ) → every test t ≡ true → every test (drop n t) ≡ true
+unfolding every
+every-drop test zero t e = e
+every-drop test (suc n) [] e = e
+every-drop test (suc n) (a ∷ t) e = every-drop test n t (both-right (test a) _ e)
+
+-- rows by their places are rows by their numbers
+numbered-are : (s places numbers : List ℕ) → Placed s places → every (λ row. ltb row (length (rowsOf (catalogue s)))) numbers ≡ true
+    → rowsAt s places numbers ≡ numbered (rowsOf (catalogue s)) numbers
+unfolding every
+numbered-are s places [] p e = refl
+numbered-are s places (k ∷ numbers) p e =
+    ap₂ (λ (r : Row) (rows : List Row). r ∷ rows)
+    (p k (ltb-true k (length (rowsOf (catalogue s))) (both-left (ltb k (length (rowsOf (catalogue s)))) _ e)))
+    (numbered-are s places numbers p (both-right (ltb k (length (rowsOf (catalogue s)))) _ e))
+
+module _ (b s places : List ℕ) (q : Request) (buffer : ℕ) (r : FetchReady b s places q buffer) where
+  pub size-is : length b ≡ cursorSize
+  size-is = ap length (r .held) ∙ cursor-block (some (cursorHeld b)) (r .fits) .size
+
+  pub count-is : getD b 2 0 ≡ length (cursorHeld b .selection)
+  count-is = ap (λ (x : List ℕ). getD x 2 0) (r .held)
+
+  pub columns-are : getD b 3 0 ≡ length (cursorHeld b .columns)
+  columns-are = ap (λ (x : List ℕ). getD x 3 0) (r .held)
+
+  pub count-most : getD b 2 0 ≤ rowsSize
+  count-most = omega (arith, count-is, r .fits .rows)
+
+  pub position-most : getD b 1 0 ≤ getD b 2 0
+  position-most = omega (arith, count-is, r .fits .position)
+
+  -- the numbers of the rows that remain
+  pub numbers-are : (n : ℕ) → getD b 1 0 + n ≤ getD b 2 0
+      → take n (drop (50 + getD b 1 0) b) ≡ take n (drop (getD b 1 0) (cursorHeld b .selection))
+  numbers-are n h =
+      ap (take n) (sym (drop-drop (getD b 1 0) 50 b))
+      ∙ sym (part-of-first (getD b 1 0) n (getD b 2 0) (drop 50 b) h)
+
+  pub rows-are : rowsAt s places (drop (getD b 1 0) (cursorHeld b .selection)) ≡ remaining (rowsOf (catalogue s)) (cursorHeld b)
+  rows-are =
+      numbered-are s places (drop (getD b 1 0) (cursorHeld b .selection)) (r .placed)
+      (every-drop (λ row. ltb row (length (rowsOf (catalogue s)))) (getD b 1 0) (cursorHeld b .selection) (r .below))
+
+  pub count-told : returned (cursorHeld b .width) (cursorHeld b .columns) (q .asked) (q .size - q .from)
+      (rowsAt s places (take (50 + getD b 2 0 - (50 + getD b 1 0)) (drop (50 + getD b 1 0) b)))
+      ≡ sent (rowsOf (catalogue s)) (cursorHeld b) q
+  count-told =
+      ap (returned (cursorHeld b .width) (cursorHeld b .columns) (q .asked) (q .size - q .from))
+      (ap (rowsAt s places)
+      (ap (λ (n : ℕ). take n (drop (50 + getD b 1 0) b)) difference
+      ∙ numbers-are (getD b 2 0 - getD b 1 0) (omega (arith, position-most))
+      ∙ take-all (getD b 2 0 - getD b 1 0) (drop (getD b 1 0) (cursorHeld b .selection)) (omega (arith, count-is, length-drop (getD b 1 0) (cursorHeld b .selection))))
+      ∙ rows-are)
+    where
+      difference : 50 + getD b 2 0 - (50 + getD b 1 0) ≡ getD b 2 0 - getD b 1 0
+      difference = omega arith
+
+  module _ (e : firstCause (earlyCauses (cursorHeld b) q) ≡ 0) where
+    bound : length (cursorHeld b .columns) ≡ 0 → ⊥
+    unfolding firstCause
+    bound z = let w : _≡_ {A = ℕ} 11 0 = rw (eq-eqb (length (cursorHeld b .columns)) 0 z) at e in omega arith
+
+    pub bindings-fit : fit (cursorHeld b .width) (cursorHeld b .columns) ≡ true
+    bindings-fit =
+        ⊎-elim
+        (λ (n : (cursorHeld b .columns ≡ []) × (cursorHeld b .width ≡ 0)). absurd (bound (ap length (n .0))))
+        (λ (f : fit (cursorHeld b .width) (cursorHeld b .columns) ≡ true). f)
+        (r .fits .bound)
+
+    pub words-ready : Words (part b recordsAt recordsSize) (getD b 3 0)
+    words-ready =
+        record {
+          long = part-length b recordsAt recordsSize (omega (arith, size-is));
+          few = omega (arith, columns-are, fit-sound (cursorHeld b .width) (cursorHeld b .columns) bindings-fit .count .1);
+        }
+
+    pub width-most : getD b 4 0 ≤ rowMost
+    width-most = fit-sound (cursorHeld b .width) (cursorHeld b .columns) bindings-fit .row .1

@@ -1,0 +1,67 @@
+-- Refusals 11 to 13 of a request, and 15 by the rows that are counted. Assumes nothing.
+use mathlib.Core.Path.{_≡_, refl, sym, ap, _∙_}
+use mathlib.Core.Bool.{true, false}
+use mathlib.Core.List.{List, [], _∷_}
+use Prim.Native.Nat.{ℕ, _+_, _-_, _≤_, _<_}
+use native.Mathlib.Omega.{arith}
+use borrow.Author.Tests.{eq-eqb, ne-eqb, lt-ltb, le-ltb, ltb-true, eqb-true, not-false}
+use lib.Dec.{ltb, eqb}
+use lib.ListN.{length, getD}
+use Rattle.words.specs.Below.{both}
+use Rattle.words.proofs.Below.{by-test}
+use Rattle.catalogue.specs.Plain.{Row}
+use Rattle.columns.proofs.Columns.{from-length}
+use Rattle.sessions.specs.Layout.{recordsAt, recordsSize, part}
+use Rattle.sessions.specs.Seat.{Cursor, cursorHeld}
+use Rattle.refusals.specs.Refusal.{firstCause}
+use Rattle.requests.specs.declared.Request.{Request}
+use Rattle.rows.specs.Page.{blocks, returned}
+use Rattle.rows.proofs.Greatest.{none-returned}
+use Rattle.fetching.specs.Fetch.{notServed, firstUnfit, earlyCauses}
+
+-- the causes that need no row, of a cursor by its words
+module _ (b : List ℕ) (q : Request) where
+  bound-is : length (cursorHeld b .columns) ≡ getD b 3 0
+  bound-is = from-length (getD b 3 0) 0 (part b recordsAt recordsSize)
+
+  pub no-bindings : getD b 3 0 ≡ 0 → firstCause (earlyCauses (cursorHeld b) q) ≡ 11
+  unfolding firstCause
+  no-bindings e = rw (bound-is, eq-eqb (getD b 3 0) 0 e)
+
+  module _ (n : getD b 3 0 ≡ 0 → ⊥) where
+    pub other-width : (q .width ≡ getD b 4 0 → ⊥) → firstCause (earlyCauses (cursorHeld b) q) ≡ 12
+    unfolding firstCause
+    other-width h = rw (bound-is, ne-eqb (getD b 3 0) 0 n, ne-eqb (q .width) (getD b 4 0) h)
+
+    module _ (w : q .width ≡ getD b 4 0) where
+      pub unserved : notServed q ≡ true → firstCause (earlyCauses (cursorHeld b) q) ≡ 13
+      unfolding firstCause
+      unserved h = rw (bound-is, ne-eqb (getD b 3 0) 0 n, eq-eqb (q .width) (getD b 4 0) w, h)
+
+      pub all-served : notServed q ≡ false → firstCause (earlyCauses (cursorHeld b) q) ≡ 0
+      unfolding firstCause
+      all-served h = rw (bound-is, ne-eqb (getD b 3 0) 0 n, eq-eqb (q .width) (getD b 4 0) w, h)
+
+-- refusal 15 by the count: nothing is sent though a row is asked for and remains
+module _ (c : Cursor) (q : Request) (inside : q .from ≤ q .size) where
+  pub first-unfit : (rows : List Row) → (length rows ≡ 0 → ⊥) → (q .asked ≡ 0 → ⊥) → returned (c .width) (c .columns) (q .asked) (q .size - q .from) rows ≡ 0
+      → firstUnfit c q rows ≡ true
+  first-unfit [] n a e = absurd (n refl)
+  first-unfit (r ∷ rows) n a e =
+      rw (lt-ltb 0 (q .asked) (omega arith), lt-ltb (q .size) (q .from + (c .width + blocks (c .columns) r)) (none-returned (q .size) (q .from) (c .width) (c .columns) (q .asked) r rows inside (omega arith) .0 e))
+
+  pub first-fits : (rows : List Row) → (length rows ≡ 0 → ⊥) → (q .asked ≡ 0 → ⊥) → (returned (c .width) (c .columns) (q .asked) (q .size - q .from) rows ≡ 0 → ⊥)
+      → firstUnfit c q rows ≡ false
+  first-fits [] n a e = absurd (n refl)
+  first-fits (r ∷ rows) n a e =
+      by-test (ltb (q .size) (q .from + (c .width + blocks (c .columns) r)))
+      (λ k. absurd (e (none-returned (q .size) (q .from) (c .width) (c .columns) (q .asked) r rows inside (omega arith) .1 (ltb-true (q .size) _ k))))
+      (λ k. rw (lt-ltb 0 (q .asked) (omega arith), k))
+
+  pub none-asked : (rows : List Row) → q .asked ≡ 0 → firstUnfit c q rows ≡ false
+  none-asked [] e = refl
+  none-asked (r ∷ rows) e = rw (le-ltb 0 (q .asked) (omega arith))
+
+  pub none-left : (rows : List Row) → length rows ≡ 0 → firstUnfit c q rows ≡ false
+  none-left [] e = refl
+  none-left (r ∷ rows) e = absurd (omega arith)

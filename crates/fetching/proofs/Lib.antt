@@ -1,0 +1,4 @@
+pub mod Facts
+pub mod Judging
+pub mod Sending
+pub mod Fetching
