@@ -13,10 +13,14 @@ const ROWS_MESSAGE: u32 = 0xCC;
 
 const END_OF_ROWS: u32 = 0x0004_0EC6;
 
+// A row's number: a type of its own, so that no seat and no handle can stand for it.
+pub struct Row(pub u32);
+
 // The place of a row in the catalogue, by its number.
-fn place_of(places: &[u32], number: u32) -> usize
-    ensures { λ r. ⌜ r ≡ getD (now (places .entry)) number 0 ⌝ }
+fn place_of(places: &[u32], row: Row) -> usize
+    ensures { λ r. ⌜ r ≡ getD (now (places .entry)) (row .0) 0 ⌝ }
 {
+    let number = row.0;
     let k = number as usize;
     if k < places.len() {
         return places[k] as usize;
@@ -62,7 +66,8 @@ pub fn count(
         if numbers.len() <= sent {
             return sent;
         }
-        let at = place_of(places, numbers[sent]);
+        let number = numbers[sent];
+        let at = place_of(places, Row(number));
         let need = width + row_blocks(s, at, words, bound);
         if left < need {
             return sent;
@@ -121,7 +126,8 @@ fn lay_rows(
     let mut top = size;
     let mut i = 0;
     while i < numbers.len() {
-        let at = place_of(places, numbers[i]);
+        let number = numbers[i];
+        let at = place_of(places, Row(number));
         top = lay_row(reply, s, at, words, bound, base, row, top);
         row += width;
         i += 1;

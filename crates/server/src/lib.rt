@@ -6,12 +6,10 @@ ghost use Rattle.server.specs.Step.{sourcesOf, connectStep, openStep, me
 ghost use Rattle.server.specs.Judgement.{Judgement};
 use messages::Answered;
 
-// A seat, a cursor's handle and a row's number: three types, so that none can stand for another.
+// A seat and a cursor's handle: types of their own, as a row's number is (`rows::Row`), so that none can stand for another.
 pub struct Seat(pub u32);
 
 pub struct Handle(pub u32);
-
-pub struct Row(pub u32);
 
 // What is judged of every call: the refusal, and the catalogue's row count where there is none.
 struct Judged {

@@ -24,11 +24,11 @@ returns : tie.Need-returns Inv-loop μ-loop
 returns c = let a = c .before .before .before .before .before .before .before .args in let l = c .before .before .loop in
     omega (arith, l .inv .1, returned-left (a .width) (columnsOf (a .bound) (a .words .now)) (a .asked - l .sent) (l .left) (rowsAt (a .s .now) (a .places .now) (drop (l .sent) (a .numbers .now))) (rows-none (a .s .now) (a .places .now) (a .numbers .now) (l .sent) (c .if1 .taken)))
 
-mul-place-of : tie.Need-mul-place-of Inv-loop μ-loop
-mul-place-of c = search needs
+mul-number : tie.Need-mul-number Inv-loop μ-loop
+mul-number c = search needs
 
-shared-slice-read-place-of : tie.Need-shared-slice-read-place-of Inv-loop μ-loop
-shared-slice-read-place-of c = search needs
+shared-slice-read-number : tie.Need-shared-slice-read-number Inv-loop μ-loop
+shared-slice-read-number c = search needs
 
 place-of-requires : tie.Need-place-of-requires Inv-loop μ-loop
 place-of-requires c κs = search needs
@@ -65,8 +65,8 @@ count-spec =
     μ-loop
     loop-holds
     returns
-    mul-place-of
-    shared-slice-read-place-of
+    mul-number
+    shared-slice-read-number
     place-of-requires
     row-blocks-requires
     add-need

@@ -6,6 +6,9 @@ use mathlib.Core.Path.{sym}
 use native.Mathlib.Omega.{arith}
 use lib.ListN.{List·getD-eq-default}
 
+cast-k : tie.Need-cast-k
+cast-k c = search needs
+
 mul-result : tie.Need-mul-result
 mul-result c = search needs
 
@@ -13,14 +16,14 @@ shared-slice-read-result : tie.Need-shared-slice-read-result
 shared-slice-read-result c = search needs
 
 cast-result : tie.Need-cast-result
-cast-result c = omega (arith, c .shared-slice-known .given (c .before .before .args .number))
+cast-result c = omega (arith, c .shared-slice-known .given (c .before .before .args .row .0))
 
 returns : tie.Need-returns
 returns c = search needs
 
 returns-2 : tie.Need-returns-2
-returns-2 c = sym (List·getD-eq-default (c .before .args .places .now) 0 {n = c .before .args .number} (omega arith))
+returns-2 c = sym (List·getD-eq-default (c .before .args .places .now) 0 {n = c .before .args .row .0} (omega arith))
 
 pub place-of-spec : {M : Type 1} → statement M
 place-of-spec =
-    tie.close (tie.spec mul-result shared-slice-read-result cast-result returns returns-2)
+    tie.close (tie.spec cast-k mul-result shared-slice-read-result cast-result returns returns-2)
