@@ -119,6 +119,6 @@ pub fn fetch(block: &mut [u32], q: Request, s: &[u8], places: &[u32], reply: &mu
         return 15;
     }
     send(block, q, s, places, reply, carried);
-    sessions::move_to(block, position + (carried as u32));
+    seats::move_to(block, position + (carried as u32));
     0
 }

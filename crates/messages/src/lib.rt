@@ -129,7 +129,7 @@ fn close(block: &mut [u32], handle: u32)
 {
     let at = cursor_at(handle);
     let end = at + sessions::CURSOR_SIZE;
-    sessions::clear(&mut block[at..end]);
+    seats::clear(&mut block[at..end]);
 }
 
 // Disconnect: both cursors are closed, and the seat is left unconnected.
@@ -140,7 +140,7 @@ fn disconnect(block: &mut [u32], m: &[u8], reply: &mut [u8], msg: u32) -> Answer
     if m.len() != 16 {
         return refuse(reply, msg, 9);
     }
-    sessions::clear(block);
+    seats::clear(block);
     Answered {
         refusal: 0,
         count: 0,
@@ -176,7 +176,7 @@ fn rebind(block: &mut [u32], handle: u32, records: &[u32], count: u32, width: u3
 {
     let at = cursor_at(handle);
     let end = at + sessions::CURSOR_SIZE;
-    sessions::bind(&mut block[at..end], records, count, width);
+    seats::bind(&mut block[at..end], records, count, width);
 }
 
 // Set bindings: they replace the old, and the position stays.

@@ -68,7 +68,7 @@ fn fill(block: &mut [u32], tree: &[u8], catalogue: &[u8], rows: u32, places: &[u
         places,
         &mut block[sessions::ROWS..sessions::CURSOR_SIZE],
     );
-    sessions::open(block, count);
+    seats::open(block, count);
 }
 
 // The same in a seat's block, under a handle.

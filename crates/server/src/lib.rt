@@ -67,7 +67,7 @@ pub fn connect(table: &mut [u32], catalogue: &[u8], seat: Seat, version: u32) ->
     if table[at] != 0 {
         return 7;
     }
-    sessions::connect(&mut table[at..end], version);
+    seats::connect(&mut table[at..end], version);
     0
 }
 

@@ -1,13 +1,12 @@
-// The session table: the judgement of a whole table, and what a call changes in the words of a seat and of a cursor.
+// The session table: the judgement of a whole table.
 ghost use mathlib.Core.Path.{_≡_};
 ghost use mathlib.Core.Bool.{true};
 ghost use Prim.Native.Nat.{_+_, _*_, _^_, _≤_, _<_};
-ghost use mathlib.Core.Option.{none, some};
-ghost use lib.ListN.{length, set};
+ghost use lib.ListN.{length};
 ghost use Rattle.columns.specs.Column.{columnAt, columnsOf, columnsMost};
 ghost use Rattle.columns.specs.Each.{every};
-ghost use Rattle.sessions.specs.Layout.{seatSize, cursorSize, openAt, positionAt, countAt, columnsAt, widthAt, recordsAt, recordsSize, put};
-ghost use Rattle.sessions.specs.Seat.{zeros, seatBlock, cursorOf, seatOf, fresh};
+ghost use Rattle.sessions.specs.Layout.{seatSize, cursorSize, recordsSize};
+ghost use Rattle.sessions.specs.Seat.{cursorOf, seatOf};
 ghost use Rattle.sessions.specs.Well.{allZero, rising, flagged, tidy, boundWell, bindingsWell, selectionWell, openWell, cursorWell, seatWell, tableWell, cursorBelow, seatBelow, tableBelow};
 
 pub const SEATS: u32 = 8;
@@ -22,11 +21,11 @@ pub const FIRST: usize = 2;
 
 pub const SECOND: usize = 1076;
 
-const CONNECTED: usize = 0;
+pub const CONNECTED: usize = 0;
 
-const VERSION: usize = 1;
+pub const VERSION: usize = 1;
 
-const OPEN: usize = 0;
+pub const OPEN: usize = 0;
 
 pub const POSITION: usize = 1;
 
@@ -281,62 +280,4 @@ pub fn below(table: &[u32], rows: u32) -> bool
         seat += 1;
     }
     true
-}
-
-// Clears words.
-pub fn clear(words: &mut [u32])
-    ensures { λ _. ⌜ now (words .exit) ≡ zeros (length (now (words .entry))) ⌝ }
-{
-    let mut i = 0;
-    while i < words.len() {
-        words[i] = 0;
-        i += 1;
-    }
-}
-
-// Connects a seat.
-pub fn connect(block: &mut [u32], version: u32)
-    requires { ⌜ now block ≡ seatBlock none ⌝ }
-    ensures { λ _. ⌜ now (block .exit) ≡ seatBlock (some (fresh version)) ⌝ }
-{
-    block[CONNECTED] = 1;
-    block[VERSION] = version;
-}
-
-// Opens a cursor whose row numbers stand in its block.
-pub fn open(block: &mut [u32], count: u32)
-    requires { ⌜ length (now block) ≡ cursorSize ⌝ }
-    ensures { λ _. ⌜ now (block .exit) ≡ set (set (now (block .entry)) openAt 1) countAt count ⌝ }
-{
-    block[OPEN] = 1;
-    block[COUNT] = count;
-}
-
-// Moves a cursor.
-pub fn move_to(block: &mut [u32], position: u32)
-    requires { ⌜ length (now block) ≡ cursorSize ⌝ }
-    ensures { λ _. ⌜ now (block .exit) ≡ set (now (block .entry)) positionAt position ⌝ }
-{
-    block[POSITION] = position;
-}
-
-fn copy(from: &[u32], into: &mut [u32])
-    requires { ⌜ length (now from) ≡ length (now into) ⌝ }
-    ensures { λ _. ⌜ now (into .exit) ≡ now (from .entry) ⌝ }
-{
-    let mut i = 0;
-    while i < into.len() {
-        into[i] = from[i];
-        i += 1;
-    }
-}
-
-// Sets a cursor's bindings.
-pub fn bind(block: &mut [u32], records: &[u32], count: u32, width: u32)
-    requires { ⌜ (length (now block) ≡ cursorSize) × (length (now records) ≡ recordsSize) ⌝ }
-    ensures { λ _. ⌜ now (block .exit) ≡ put (set (set (now (block .entry)) columnsAt count) widthAt width) recordsAt recordsSize (now (records .entry)) ⌝ }
-{
-    block[COLUMNS] = count;
-    block[WIDTH] = width;
-    copy(records, &mut block[RECORDS..ROWS]);
 }

@@ -1,12 +1,12 @@
--- `sessions::bind` meets its contract: two words are set, and the records are copied into their part. Assumes nothing.
+-- `seats::bind` meets its contract: two words are set, and the records are copied into their part. Assumes nothing.
 use borrow.Author.Needs.{needs}
-use Rattle.sessions.proofs.bind.Statement.{statement}
-use Rattle.sessions.proofs.bind.Tie as tie
+use Rattle.seats.proofs.bind.Statement.{statement}
+use Rattle.seats.proofs.bind.Tie as tie
 use mathlib.Core.Path.{ap, _∙_}
 use native.Mathlib.Omega.{arith}
 use lib.ListN.{length, set, length-set}
 use Rattle.sessions.specs.Layout.{put}
 use Rattle.sessions.proofs.Tables.{put-length}
 
 slice-write-block : tie.Need-slice-write-block
 slice-write-block c = search needs

@@ -1,13 +1,13 @@
--- `sessions::clear` meets its contract. The loop's invariant: the words passed are zero, the others as they were. Assumes nothing.
-use Rattle.sessions.proofs.clear.Statement.{statement}
-use Rattle.sessions.proofs.clear.Tie as tie
+-- `seats::clear` meets its contract. The loop's invariant: the words passed are zero, the others as they were. Assumes nothing.
+use Rattle.seats.proofs.clear.Statement.{statement}
+use Rattle.seats.proofs.clear.Tie as tie
 use borrow.Author.Needs.{needs}
 use Prim.Native.Nat.{_≤_, _-_, ℕ}
 use mathlib.Core.Path.{_≡_, refl, ap₂, _∙_}
 use mathlib.Core.List.{List, _++_, append-nil}
 use lib.ListN.{length, drop, length-set, drop-of-length-le}
 use borrow.Author.Fill.{fill-more}
 use Rattle.sessions.specs.Seat.{zeros}
 
 abbrev Inv-loop : tie.InvT-loop
 Inv-loop words₀ i₀ words i = (length words ≡ length words₀) × (i ≤ length words₀) × (words ≡ zeros i ++ drop i words₀)

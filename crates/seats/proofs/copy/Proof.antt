@@ -1,12 +1,12 @@
--- `sessions::copy` meets its contract. The loop's invariant: the words passed are the source's, the others as they were. Assumes nothing.
-use Rattle.sessions.proofs.copy.Statement.{statement}
-use Rattle.sessions.proofs.copy.Tie as tie
+-- `seats::copy` meets its contract. The loop's invariant: the words passed are the source's, the others as they were. Assumes nothing.
+use Rattle.seats.proofs.copy.Statement.{statement}
+use Rattle.seats.proofs.copy.Tie as tie
 use borrow.Author.Needs.{needs}
 use mathlib.Core.Path.{_≡_, refl, _∙_}
 use mathlib.Core.List.{_++_}
 use Prim.Native.Nat.{_≤_, _-_}
 use lib.ListN.{length, take, drop, length-set}
 use Rattle.sessions.proofs.Writes.{copy-more, copy-all}
 
 abbrev Inv-loop : tie.InvT-loop
 Inv-loop from into₀ i₀ into i = (length into ≡ length into₀) × (i ≤ length into₀) × (into ≡ take i from ++ drop i into₀)

@@ -1,10 +1,10 @@
--- `sessions::connect` meets its contract: two words of a block of zeros are set. Assumes nothing.
+-- `seats::connect` meets its contract: two words of a block of zeros are set. Assumes nothing.
 use borrow.Author.Needs.{needs}
-use Rattle.sessions.proofs.connect.Statement.{statement}
-use Rattle.sessions.proofs.connect.Tie as tie
+use Rattle.seats.proofs.connect.Statement.{statement}
+use Rattle.seats.proofs.connect.Tie as tie
 use native.Mathlib.Omega.{arith}
 use lib.ListN.{length-set}
 use Rattle.sessions.proofs.Writes.{connect-block, block-fits}
 
 slice-write-block : tie.Need-slice-write-block
 slice-write-block c = omega (arith, block-fits (c .args .block .now) (c .pre))
