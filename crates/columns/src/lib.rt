@@ -1,6 +1,4 @@
 // The bindings of a cursor: which columns a row has, and where in the row each stands.
-mod layout;
-
 ghost use mathlib.Core.Path.{_≡_};
 ghost use Prim.Native.Nat.{_+_, _≤_, _<_};
 ghost use lib.ListN.{length};
@@ -64,7 +62,7 @@ pub const STATUS_SIZE: u32 = 1;
 pub const LENGTH_SIZE: u32 = 4;
 
 // Whether a number is one of those from low to high.
-fn within(low: u32, high: u32, n: u32) -> bool
+pub fn within(low: u32, high: u32, n: u32) -> bool
     ensures { λ r. ⌜ r ≡ within low high n ⌝ }
 {
     if n < low {
@@ -99,113 +97,6 @@ pub fn cell_size(property: u32, vtype: u32) -> u32
         return 0;
     }
     0
-}
-
-// The type and size of the k-th column, against its property.
-fn column_fits(words: &[u32], k: usize) -> bool
-    requires { ⌜ (length (now words) ≡ roomWords) × (k < columnsMost) ⌝ }
-    ensures { λ r. ⌜ r ≡ columnFits (columnAt (now (words .entry)) k) ⌝ }
-{
-    let at = COLUMN_WORDS * k;
-    let property = words[at];
-    let vtype = words[at + 1];
-    let used = words[at + 2];
-    let given = words[at + 4];
-    if !within(KEY, NOTE, property) {
-        return false;
-    }
-    let size = cell_size(property, vtype);
-    if size == 0 {
-        return false;
-    }
-    if used != 1 {
-        return true;
-    }
-    given == size
-}
-
-// The type and size of each column.
-fn columns_fit(words: &[u32], count: usize) -> bool
-    requires { ⌜ (length (now words) ≡ roomWords) × (count ≤ columnsMost) ⌝ }
-    ensures { λ r. ⌜ r ≡ every columnFits (columnsOf count (now (words .entry))) ⌝ }
-{
-    let mut k = 0;
-    let mut left = count;
-    while 0 < left {
-        if !column_fits(words, k) {
-            return false;
-        }
-        k += 1;
-        left -= 1;
-    }
-    true
-}
-
-// Whether none of so many columns from one on has a property.
-fn unbound(words: &[u32], from: usize, count: usize, property: u32) -> bool
-    requires { ⌜ (length (now words) ≡ roomWords) × (from + count ≤ columnsMost) ⌝ }
-    ensures { λ r. ⌜ r ≡ every (unlike property) (columnsFrom count from (now (words .entry))) ⌝ }
-{
-    let mut k = from;
-    let mut left = count;
-    while 0 < left {
-        if words[COLUMN_WORDS * k] == property {
-            return false;
-        }
-        k += 1;
-        left -= 1;
-    }
-    true
-}
-
-// Whether no property is bound twice.
-fn bound_once(words: &[u32], count: usize) -> bool
-    requires { ⌜ (length (now words) ≡ roomWords) × (count ≤ columnsMost) ⌝ }
-    ensures { λ r. ⌜ r ≡ pairwise differ (columnsOf count (now (words .entry))) ⌝ }
-{
-    let mut k = 0;
-    let mut left = count;
-    while 0 < left {
-        let property = words[COLUMN_WORDS * k];
-        k += 1;
-        left -= 1;
-        if !unbound(words, k, left, property) {
-            return false;
-        }
-    }
-    true
-}
-
-// The columns for rows of a width, once their count is in range.
-fn columns_for(words: &[u32], count: usize, width: u32) -> bool
-    requires { ⌜ (length (now words) ≡ roomWords) × (count ≤ columnsMost) ⌝ }
-    ensures { λ r. ⌜ r ≡ columnsFit width (columnsOf count (now (words .entry))) ⌝ }
-{
-    if !columns_fit(words, count) {
-        return false;
-    }
-    if !bound_once(words, count) {
-        return false;
-    }
-    let total = 3 * count;
-    if !layout::all_inside(words, total, width) {
-        return false;
-    }
-    layout::none_meet(words, total)
-}
-
-// Whether bindings are fit: `count` columns, in the nine words of each, for rows of `width` bytes.
-pub fn fit(words: &[u32], count: u32, width: u32) -> bool
-    requires { ⌜ length (now words) ≡ roomWords ⌝ }
-    ensures { λ r. ⌜ r ≡ fit width (columnsOf count (now (words .entry))) ⌝ }
-{
-    if !within(1, COLUMNS_MOST, count) {
-        return false;
-    }
-    if !within(1, ROW_MOST, width) {
-        return false;
-    }
-    columns_for(words, count as usize, width)
 }
 
 // Clears the room for five columns.

@@ -196,7 +196,7 @@ fn bind(block: &mut [u32], m: &[u8], reply: &mut [u8], msg: u32) -> Answered
     if !is_open(block, handle) {
         return refuse(reply, msg, 10);
     }
-    if !columns::fit(&records, count, width) {
+    if !fitness::fit(&records, count, width) {
         return refuse(reply, msg, 12);
     }
     rebind(block, handle, &records, count, width);

@@ -131,7 +131,7 @@ fn bound_well(records: &[u32], count: u32, width: u32) -> bool
     requires { ⌜ length (now records) ≡ recordsSize ⌝ }
     ensures { λ r. ⌜ r ≡ boundWell count width (now (records .entry)) ⌝ }
 {
-    if !columns::fit(records, count, width) {
+    if !fitness::fit(records, count, width) {
         return false;
     }
     let n = count as usize;
