@@ -99,7 +99,7 @@ fn lay_row(
     let mut left = bound;
     while 0 < left {
         let column = cells::column_at(words, k);
-        place = cells::lay_column(reply, s, fields, column, base, row, place);
+        place = laying::lay_column(reply, s, fields, column, base, row, place);
         k += 1;
         left -= 1;
     }

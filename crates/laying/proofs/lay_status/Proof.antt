@@ -1,10 +1,10 @@
 -- One byte where the status is used. Assumes nothing.
 use borrow.Author.Needs.{needs}
-use Rattle.cells.proofs.lay_status.Statement.{statement}
-use Rattle.cells.proofs.lay_status.Tie as tie
+use Rattle.laying.proofs.lay_status.Statement.{statement}
+use Rattle.laying.proofs.lay_status.Tie as tie
 use mathlib.Core.List.{_∷_, []}
 use native.Mathlib.Omega.{arith}
 use Rattle.cells.proofs.Fields.{laid-unused, laid-used}
 use Prim.Native.Nat.{_+_}
 
 returns : tie.Need-returns

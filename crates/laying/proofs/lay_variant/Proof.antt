@@ -1,7 +1,7 @@
 -- Two numbers of eight bytes side by side. Assumes nothing.
 use borrow.Author.Needs.{needs}
-use Rattle.cells.proofs.lay_variant.Statement.{statement}
-use Rattle.cells.proofs.lay_variant.Tie as tie
+use Rattle.laying.proofs.lay_variant.Statement.{statement}
+use Rattle.laying.proofs.lay_variant.Tie as tie
 use native.Mathlib.Omega.{arith}
 use Rattle.words.specs.Word.{le}
 use Rattle.spans.proofs.Lay.{lay-next}

@@ -1,13 +1,13 @@
 -- Block, cell, status and length, one after the other, each from the field of the column's property. Assumes nothing.
 use borrow.Author.Needs.{needs}
-use Rattle.cells.proofs.lay_column.Statement.{statement}
-use Rattle.cells.proofs.lay_column.Tie as tie
+use Rattle.laying.proofs.lay_column.Statement.{statement}
+use Rattle.laying.proofs.lay_column.Tie as tie
 use mathlib.Core.Path.{_∙_, sym, ap}
 use Prim.Native.Nat.{ℕ, _-_}
 use native.Mathlib.Omega.{arith}
 use lib.ListN.{length}
 use Rattle.cells.proofs.Fields.{field-small, stand-small, still-in}
 use Rattle.cells.proofs.Column.{found-stands, found-room, column-laid}
 
 block-room-requires : tie.Need-block-room-requires
 block-room-requires c κs = let a = c .before .before .args in stand-small (a .s .now) (a .fields) (c .before .before .pre .stands)

@@ -1,9 +1,9 @@
 -- Four bytes where the length is used. Assumes nothing.
 use borrow.Author.Needs.{needs}
-use Rattle.cells.proofs.lay_length.Statement.{statement}
-use Rattle.cells.proofs.lay_length.Tie as tie
+use Rattle.laying.proofs.lay_length.Statement.{statement}
+use Rattle.laying.proofs.lay_length.Tie as tie
 use native.Mathlib.Omega.{arith}
 use Rattle.cells.proofs.Fields.{laid-unused, laid-used}
 use Prim.Native.Nat.{_+_}
 use Rattle.words.specs.Word.{le}
 

@@ -1,11 +1,11 @@
 -- The units copied and a zero unit after them are the block. Assumes nothing.
 use borrow.Author.Needs.{needs}
-use Rattle.cells.proofs.lay_text.Statement.{statement}
-use Rattle.cells.proofs.lay_text.Tie as tie
+use Rattle.laying.proofs.lay_text.Statement.{statement}
+use Rattle.laying.proofs.lay_text.Tie as tie
 use mathlib.Core.Path.{ap}
 use native.Mathlib.Omega.{arith}
 use lib.ListN.{length}
 use Rattle.cells.proofs.Units.{units-length, text-laid}
 
 units-requires : tie.Need-units-requires
 units-requires c κs = search needs

@@ -1,11 +1,11 @@
 -- Nothing where the value is not used or the field has no block, else the text's. Assumes nothing.
 use borrow.Author.Needs.{needs}
-use Rattle.cells.proofs.lay_block.Statement.{statement}
-use Rattle.cells.proofs.lay_block.Tie as tie
+use Rattle.laying.proofs.lay_block.Statement.{statement}
+use Rattle.laying.proofs.lay_block.Tie as tie
 use Rattle.spans.specs.Laid.{lays}
 use Rattle.cells.specs.Cell.{blockSpan}
 use Rattle.cells.specs.Field.{fieldSeen}
 use Rattle.cells.proofs.Fields.{laid-unused, block-laid, block-fits}
 
 returns : tie.Need-returns
 returns c = let a = c .before .before .before .args in laid-unused (a .reply .now) (a .used) (blockSpan (a .place) (fieldSeen (a .s .now) (a .field))) (c .if1 .taken)

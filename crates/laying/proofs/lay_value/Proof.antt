@@ -1,12 +1,12 @@
 -- Nothing where the value is not used, else a cell of sixteen bytes or a number. Assumes nothing.
 use borrow.Author.Needs.{needs}
-use Rattle.cells.proofs.lay_value.Statement.{statement}
-use Rattle.cells.proofs.lay_value.Tie as tie
+use Rattle.laying.proofs.lay_value.Statement.{statement}
+use Rattle.laying.proofs.lay_value.Tie as tie
 use Prim.Native.Nat.{_+_}
 use native.Mathlib.Omega.{arith}
 use borrow.Author.Tests.{eq-eqb, ne-eqb}
 use Rattle.cells.specs.Cell.{cellBytes}
 use Rattle.cells.proofs.Fields.{laid-unused, laid-used, variant-size, plain-size}
 
 returns : tie.Need-returns
 returns c = let a = c .before .before .before .args in laid-unused (a .reply .now) (a .column .value .used) _ (c .if1 .taken)

@@ -1,0 +1,123 @@
+// The columns of a row written into a reply: cells, status bytes, lengths and blocks.
+ghost use mathlib.Core.Path.{_≡_};
+ghost use mathlib.Core.List.{[], _∷_, _++_};
+ghost use Prim.Native.Nat.{_+_, _-_, _*_, _≤_, _<_};
+ghost use lib.ListN.{length};
+ghost use Rattle.words.specs.Below.{pick};
+ghost use Rattle.words.specs.Word.{le, halves};
+ghost use Rattle.catalogue.specs.Places.{unitsPart, rowOf};
+ghost use Rattle.columns.specs.Property.{lengthSize};
+ghost use Rattle.columns.specs.Fit.{isUsed};
+ghost use Rattle.spans.specs.Laid.{lay, lays};
+ghost use Rattle.cells.specs.Field.{fieldSeen};
+ghost use Rattle.cells.specs.Cell.{cellBytes, blockOf, blockSize, blockSpan, laidIf, blockRoom, columnSpans};
+ghost use Rattle.cells.specs.Stands.{TextStands, FieldStands, ColumnIn, ColumnReady};
+use catalogue::Fields;
+use catalogue::Text;
+use columns::Column;
+use cells::FieldAt;
+
+// A text's block: its units and one zero unit.
+fn lay_text(reply: &mut [u8], s: &[u8], text: Text, place: usize)
+    requires { ⌜ TextStands (now s) text × (0 < text .size) × (place + 2 * text .size ≤ length (now reply)) ⌝ }
+    ensures { λ _. ⌜ now (reply .exit) ≡ lay (now (reply .entry)) place (blockOf (halves (unitsPart (now (s .entry)) text))) ⌝ }
+{
+    let units = catalogue::units(s, text);
+    spans::lay_bytes(reply, place, units);
+    let end = place + units.len();
+    spans::lay_half(reply, end, 0);
+}
+
+// A field's block, where the value is used and there is one.
+fn lay_block(reply: &mut [u8], s: &[u8], used: u32, field: FieldAt, place: usize)
+    requires { ⌜ FieldStands (now s) field × (place + pick (isUsed used) (blockSize (fieldSeen (now s) field)) 0 ≤ length (now reply)) ⌝ }
+    ensures { λ _. ⌜ now (reply .exit) ≡ lays (now (reply .entry)) (pick (isUsed used) (blockSpan place (fieldSeen (now (s .entry)) field)) []) ⌝ }
+{
+    if used != 1 {
+        return;
+    }
+    match field {
+        FieldAt::NumberIs(_) => {}
+        FieldAt::TextIs(text) => lay_text(reply, s, text, place),
+        FieldAt::Absent => {}
+    }
+}
+
+// A cell of sixteen bytes: the type, six zeros, and the number in the first bytes of the other eight.
+fn lay_variant(reply: &mut [u8], at: usize, kind: u64, number: u64)
+    requires { ⌜ at + 16 ≤ length (now reply) ⌝ }
+    ensures { λ _. ⌜ now (reply .exit) ≡ lay (now (reply .entry)) at (le 8 kind ++ le 8 number) ⌝ }
+{
+    spans::lay_long(reply, at, kind);
+    spans::lay_long(reply, at + 8, number);
+}
+
+// A column's cell, where its value is used.
+fn lay_value(reply: &mut [u8], column: Column, row: usize, kind: u64, number: u64)
+    requires { ⌜ ColumnIn (length (now reply)) row column ⌝ }
+    ensures { λ _. ⌜ now (reply .exit) ≡ lays (now (reply .entry)) (laidIf (column .value .used) (row + column .value .offset) (cellBytes (column .property) (column .vtype) kind number)) ⌝ }
+{
+    if column.value.used != 1 {
+        return;
+    }
+    let at = row + (column.value.offset as usize);
+    if column.vtype == columns::VARIANT_TYPE {
+        lay_variant(reply, at, kind, number);
+        return;
+    }
+    spans::lay_word(reply, at, number);
+}
+
+// A column's status byte, where it is used.
+fn lay_status(reply: &mut [u8], column: Column, row: usize, status: u8)
+    requires { ⌜ ColumnIn (length (now reply)) row column ⌝ }
+    ensures { λ _. ⌜ now (reply .exit) ≡ lays (now (reply .entry)) (laidIf (column .status .used) (row + column .status .offset) (status ∷ [])) ⌝ }
+{
+    if column.status.used != 1 {
+        return;
+    }
+    let at = row + (column.status.offset as usize);
+    spans::lay_byte(reply, at, status);
+}
+
+// A column's length, where it is used.
+fn lay_length(reply: &mut [u8], column: Column, row: usize, value: u64)
+    requires { ⌜ ColumnIn (length (now reply)) row column ⌝ }
+    ensures { λ _. ⌜ now (reply .exit) ≡ lays (now (reply .entry)) (laidIf (column .length .used) (row + column .length .offset) (le lengthSize value)) ⌝ }
+{
+    if column.length.used != 1 {
+        return;
+    }
+    let at = row + (column.length.offset as usize);
+    spans::lay_word(reply, at, value);
+}
+
+// All of a column in the row at `row`, its block ending at `top`: the block's place is given back.
+pub fn lay_column(
+    reply: &mut [u8],
+    s: &[u8],
+    fields: Fields,
+    column: Column,
+    base: u64,
+    row: usize,
+    top: usize,
+) -> usize
+    requires { ⌜ ColumnReady (length (now reply)) (now s) fields column base row top ⌝ }
+    ensures { λ r. ⌜ r ≡ top - blockRoom column (rowOf (now (s .entry)) fields) ⌝ }
+    ensures { λ r. ⌜ now (reply .exit) ≡ lays (now (reply .entry)) (columnSpans base row r column (rowOf (now (s .entry)) fields)) ⌝ }
+{
+    let place = top - cells::block_room(column, fields);
+    let found = cells::field(fields, column.property);
+    lay_block(reply, s, column.value.used, found, place);
+    let offset = base + (place as u64);
+    lay_value(
+        reply,
+        column,
+        row,
+        cells::kind(found, column.property),
+        cells::content(found, offset),
+    );
+    lay_status(reply, column, row, cells::status(found));
+    lay_length(reply, column, row, cells::length_sent(found, column.property));
+    place
+}
