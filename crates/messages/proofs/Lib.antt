@@ -4,6 +4,4 @@ pub mod Answering
 pub mod Bodies
 pub mod Binding
 pub mod Rows
-pub mod Tidy
-pub mod Keeping
 pub mod Once

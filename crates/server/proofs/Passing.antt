@@ -34,7 +34,7 @@ use Rattle.fetching.specs.Ready.{rowsOf}
 use Rattle.messages.specs.Message.{seatMessage}
 use Rattle.messages.proofs.Bodies.{with-fits}
 use Rattle.refusals.proofs.First.{first-both}
-use Rattle.messages.proofs.Keeping.{message-fits, message-below}
+use Rattle.keeping.proofs.Keeping.{message-fits, message-below}
 use Rattle.opening.specs.Open.{freeHandle, openCauses, openedOn}
 use Rattle.server.specs.Step.{Sources, sourcesOf, openDone, openStep, rowsHold, judging, seatHeld, isConnected, seated, sizing, connectCauses, connectStep, messageStep}
 use Rattle.server.proofs.Causes.{judging-numbered, passes}
