@@ -41,9 +41,13 @@ u64 put_number(byte *to, u64 at, u64 v)
 static u64 put_text(byte *to, u64 at, u64 units, u64 turn)
 {
     static const char words[] = "fan start of restart limit a boot before starting order memory ";
+    const char *next = words + turn * 11 % (sizeof words - 1);
     at = put_number(to, at, units + 1);
-    for (u64 i = 0; i < units; i++)
-        at = put_bytes(to, at, (byte)words[(turn * 11 + i) % (sizeof words - 1)], 2);
+    for (u64 i = 0; i < units; i++) {
+        to[at++] = (byte)*next++;
+        to[at++] = 0;
+        next = *next == 0 ? words : next;
+    }
     return at;
 }
 
