@@ -107,13 +107,13 @@ static void cursor(u32 seat, u32 width, const struct column *bound, u32 count)
     sends(tables[0], seat);
 }
 
-/* seven seats, each with two cursors on every row */
+/* seven seats, each with two cursors on every row: the first seat's words, and copies of them */
 static void full(void)
 {
-    for (u32 seat = 0; seat < 7; seat++) {
-        cursor(seat, WIDTH, columns, 5);
-        opens(tables[0], seat);
-    }
+    cursor(0, WIDTH, columns, 5);
+    opens(tables[0], 0);
+    for (u32 seat = 1; seat < 7; seat++)
+        memcpy(tables[0] + seat * SEAT_WORDS, tables[0], SEAT_WORDS * sizeof(u32));
 }
 
 /* ---- the tasks */
