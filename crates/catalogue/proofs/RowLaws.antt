@@ -19,11 +19,12 @@ use Rattle.numbers.specs.declared.Reading.the-variants.{Number, Malformed}
 use Rattle.numbers.proofs.Inside.{Read, reading-read}
 use Rattle.catalogue.specs.Limits.{keyMost, numberMost, sizeMost}
 use Rattle.catalogue.specs.Plain.{noneZero}
-use Rattle.catalogue.specs.Places.{withNumber, withText, unitBytesOf, unitsPart, textAfterAt, textAt, rowAt, rowsEnd, placesFrom}
+use Rattle.catalogue.specs.Places.{withNumber, withText, unitBytesOf, unitsPart, textAfterAt, textAt, rowAt, TextThere, RowThere, textEnd, rowEnd, rowsEnd, placesFrom}
 use Rattle.catalogue.specs.declared.Text.{Text}
 use Rattle.catalogue.specs.declared.Fields.{Fields}
 use Rattle.catalogue.specs.declared.TextAt.{TextAt}
 use Rattle.catalogue.specs.declared.TextAt.the-variants.{TextTo, NoText}
+use Rattle.catalogue.specs.declared.RowAt.{RowAt}
 use Rattle.catalogue.specs.declared.RowAt.the-variants.{RowTo, NoRow}
 
 -- an answer that is not the bad one came by what was read
@@ -117,6 +118,74 @@ row-read s at f next e =
 
 pub row-inside : (s : List ℕ) (at : ℕ) (f : Fields) (next : ℕ) → rowAt s at ≡ RowTo f next → next ≤ length s
 row-inside s at f next e = row-read s at f next e .note .inside
+
+-- a text that stands at a place is known by its size, and a row's texts stand where its numbers end
+pub text-known : (s : List ℕ) (at size start : ℕ) → readingAt sizeMost s at ≡ Number size start → TextThere s at
+    → TextTo (record { size = size; start = start }) (start + unitBytesOf size) ≡ textAt s at
+unfolding textAt
+text-known s at size start e there =
+    let f : textAfterAt s size start ≡ TextTo (there .0) (there .1) = rw e at (there .2) in
+    by-test
+    (both (leb (unitBytesOf size) (length s - start)) (noneZero (halves (take (unitBytesOf size) (drop start s)))))
+    (λ q. rw (e, q))
+    (λ q. absurd (no-text (rw q at f)))
+
+module _ (s : List ℕ) (at key at₁ language at₂ default at₃ : ℕ) (a : readingAt keyMost s at ≡ Number key at₁) (b : readingAt numberMost s at₁ ≡ Number language at₂)
+    (c : readingAt numberMost s at₂ ≡ Number default at₃) (there : RowThere s at) where
+  pub label-there : TextThere s at₃
+  unfolding rowAt
+  label-there =
+      let e = rw (a, b, c) at (there .2) in
+      let i = text-inv NoRow (textAt s at₃) _ (RowTo (there .0) (there .1)) no-row e in
+      (i .0, i .1, i .2)
+
+  pub note-there : (label : Text) (at₄ : ℕ) → textAt s at₃ ≡ TextTo label at₄ → TextThere s at₄
+  unfolding rowAt
+  note-there label at₄ d =
+      let e = rw (a, b, c, d) at (there .2) in
+      let i = text-inv NoRow (textAt s at₄) _ (RowTo (there .0) (there .1)) no-row e in
+      (i .0, i .1, i .2)
+
+-- a text and a row end after their place, so a place of 0 says that there is none
+pub text-gone : (s : List ℕ) (at : ℕ) → textEnd (textAt s at) ≡ 0 → textAt s at ≡ NoText
+text-gone s at z = go (textAt s at) refl z
+  where
+    go : (r : TextAt) → textAt s at ≡ r → textEnd r ≡ 0 → r ≡ NoText
+    go NoText e w = refl
+    go (TextTo t p) e w = let r = text-read s at t p e in absurd (omega (arith, r .past, r .ends, w))
+
+pub text-there : (s : List ℕ) (at n : ℕ) → n ≡ textEnd (textAt s at) → (n ≡ 0 → ⊥) → (t : Text) × (textAt s at ≡ TextTo t n)
+text-there s at n e z = go (textAt s at) e
+  where
+    go : (r : TextAt) → n ≡ textEnd r → (t : Text) × (r ≡ TextTo t n)
+    go NoText w = absurd (z w)
+    go (TextTo t p) w = (t, ap (TextTo t) (sym w))
+
+pub row-gone : (s : List ℕ) (at : ℕ) → rowEnd (rowAt s at) ≡ 0 → rowAt s at ≡ NoRow
+row-gone s at z = go (rowAt s at) refl z
+  where
+    go : (r : RowAt) → rowAt s at ≡ r → rowEnd r ≡ 0 → r ≡ NoRow
+    go NoRow e w = refl
+    go (RowTo f p) e w = let r = row-read s at f p e .note in absurd (omega (arith, r .past, r .ends, w))
+
+pub row-there : (s : List ℕ) (at n : ℕ) → n ≡ rowEnd (rowAt s at) → (n ≡ 0 → ⊥) → (f : Fields) × (rowAt s at ≡ RowTo f n)
+row-there s at n e z = go (rowAt s at) e
+  where
+    go : (r : RowAt) → n ≡ rowEnd r → (f : Fields) × (r ≡ RowTo f n)
+    go NoRow w = absurd (z w)
+    go (RowTo f p) w = (f, ap (RowTo f) (sym w))
+
+-- a row ends where its note ends
+note-ends : (r : TextAt) (fields : Text → Fields) → textEnd r ≡ rowEnd (withText r NoRow λ note p. RowTo (fields note) p)
+note-ends NoText fields = refl
+note-ends (TextTo t p) fields = refl
+
+pub row-ends : (s : List ℕ) (at key at₁ language at₂ default at₃ at₄ end : ℕ) → readingAt keyMost s at ≡ Number key at₁ → readingAt numberMost s at₁ ≡ Number language at₂
+    → readingAt numberMost s at₂ ≡ Number default at₃ → at₄ ≡ textEnd (textAt s at₃) → (at₄ ≡ 0 → ⊥) → end ≡ textEnd (textAt s at₄) → end ≡ rowEnd (rowAt s at)
+unfolding rowAt
+row-ends s at key at₁ language at₂ default at₃ at₄ end a b c e z q =
+    let t = text-there s at₃ at₄ e z in
+    rw (a, b, c, t .1) (q ∙ note-ends (textAt s at₄) (λ note. record { key = key; language = language; default = default; label = t .0; note = note }))
 
 -- the rows that are left, where there are some: one that was read, with its place noted, and then the others
 module _ (left : ℕ) (s : List ℕ) (at : ℕ) (places : List ℕ) (i : ℕ) (some-left : 0 < left) where

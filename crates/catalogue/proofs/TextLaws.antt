@@ -13,7 +13,10 @@ use Rattle.words.specs.Word.{numberAt, halves}
 use Rattle.words.proofs.Below.{every-next, every-next-not}
 use Rattle.words.proofs.Halves.{halves-length, halves-at}
 use Rattle.catalogue.specs.Plain.{noneZero}
-use Rattle.catalogue.specs.Places.{textAfterAt, unitBytesOf, unitsPart}
+use Rattle.numbers.specs.Reading.{readingAt}
+use Rattle.numbers.specs.declared.Reading.the-variants.{Number}
+use Rattle.catalogue.specs.Limits.{sizeMost}
+use Rattle.catalogue.specs.Places.{textAfterAt, textAt, textEnd, unitBytesOf, unitsPart}
 use Rattle.catalogue.specs.declared.Text.{Text}
 use Rattle.catalogue.specs.declared.TextAt.the-variants.{TextTo, NoText}
 
@@ -49,3 +52,18 @@ units-part s t end e = ap (λ (n : ℕ). take n (drop (t .start) s)) same
   where
     same : end - t .start ≡ unitBytesOf (t .size)
     same = omega arith
+
+-- the place after a text whose size was read
+pub end-short : (s : List ℕ) (at size start : ℕ) → readingAt sizeMost s at ≡ Number size start → start ≤ length s → length s < start + unitBytesOf size
+    → 0 ≡ textEnd (textAt s at)
+unfolding textAt
+end-short s at size start e l h = rw (e, units-short s size start l h)
+
+module _ (s : List ℕ) (at size start end : ℕ) (e : readingAt sizeMost s at ≡ Number size start) (p : end ≡ start + unitBytesOf size) (h : end ≤ length s) where
+  pub end-clear : true ≡ noneZero (halves (take (end - start) (drop start s))) → end ≡ textEnd (textAt s at)
+  unfolding textAt
+  end-clear q = rw (e, units-there s size start end true p h q)
+
+  pub end-zero : false ≡ noneZero (halves (take (end - start) (drop start s))) → 0 ≡ textEnd (textAt s at)
+  unfolding textAt
+  end-zero q = rw (e, units-there s size start end false p h q)

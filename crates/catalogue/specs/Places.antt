@@ -1,5 +1,6 @@
 -- The option catalogue by places in its list of bytes: what the code follows. proofs/Agree.antt shows that it says what the
 -- plain parser says.
+use mathlib.Core.Path.{_≡_}
 use mathlib.Core.Bool.{Bool, false}
 use mathlib.Core.List.{List, [], _∷_}
 use mathlib.Core.Option.{Option, none, some}
@@ -63,6 +64,22 @@ rowAt s at =
     withText (textAt s at₃) NoRow λ label at₄.
     withText (textAt s at₄) NoRow λ note at₅.
     RowTo (record { key = key; language = language; default = default; label = label; note = note }) at₅
+
+-- a text and a row stand at a place
+abbrev pub TextThere : List ℕ → ℕ → Type 0
+TextThere s at = (t : Text) × (next : ℕ) × (textAt s at ≡ TextTo t next)
+
+abbrev pub RowThere : List ℕ → ℕ → Type 0
+RowThere s at = (f : Fields) × (next : ℕ) × (rowAt s at ≡ RowTo f next)
+
+-- the place after a text and after a row, 0 where there is none
+abbrev pub textEnd : TextAt → ℕ
+textEnd NoText = 0
+textEnd (TextTo t at) = at
+
+abbrev pub rowEnd : RowAt → ℕ
+rowEnd NoRow = 0
+rowEnd (RowTo f at) = at
 
 -- n rows stand from a place on, and "no bytes may follow"
 unfoldable pub rowsEnd : ℕ → List ℕ → ℕ → Bool

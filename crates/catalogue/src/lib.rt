@@ -6,7 +6,7 @@ ghost use lib.Seq.{sets};
 ghost use Rattle.words.specs.Word.{halves};
 ghost use Rattle.catalogue.specs.Limits.{rowsMost, sizeMost, bytesMost};
 ghost use Rattle.catalogue.specs.Plain.{noneZero};
-ghost use Rattle.catalogue.specs.Places.{textAfterAt, textAt, rowAt, unitBytesOf, unitsPart, rowsEnd, placesFrom, checked, noted};
+ghost use Rattle.catalogue.specs.Places.{textAfterAt, textAt, rowAt, TextThere, RowThere, textEnd, rowEnd, unitBytesOf, unitsPart, rowsEnd, placesFrom, checked, noted};
 use numbers::Reading;
 
 pub const ROWS_MOST: u64 = 1024;
@@ -135,6 +135,88 @@ pub fn read_row(s: &[u8], at: usize) -> RowAt
     )
 }
 
+// The text that is known to stand at a place: its units are not looked at again.
+fn text_again(s: &[u8], at: usize) -> TextAt
+    requires { ⌜ TextThere (now s) at ⌝ }
+    ensures { λ r. ⌜ r ≡ textAt (now (s .entry)) at ⌝ }
+{
+    let Reading::Number(told, start) = numbers::read(s, at, SIZE_MOST) else {
+        return TextAt::NoText;
+    };
+    let size = told as usize;
+    let end = units_end(size, start);
+    TextAt::TextTo(Text { size, start }, end)
+}
+
+// The row that is known to stand at a place, as one that the check noted.
+pub fn row_again(s: &[u8], at: usize) -> RowAt
+    requires { ⌜ RowThere (now s) at ⌝ }
+    ensures { λ r. ⌜ r ≡ rowAt (now (s .entry)) at ⌝ }
+{
+    let Reading::Number(key, at1) = numbers::read(s, at, KEY_MOST) else {
+        return RowAt::NoRow;
+    };
+    let Reading::Number(language, at2) = numbers::read(s, at1, NUMBER_MOST) else {
+        return RowAt::NoRow;
+    };
+    let Reading::Number(default, at3) = numbers::read(s, at2, NUMBER_MOST) else {
+        return RowAt::NoRow;
+    };
+    let TextAt::TextTo(label, at4) = text_again(s, at3) else {
+        return RowAt::NoRow;
+    };
+    let TextAt::TextTo(note, at5) = text_again(s, at4) else {
+        return RowAt::NoRow;
+    };
+    RowAt::RowTo(
+        Fields {
+            key,
+            language,
+            default,
+            label,
+            note,
+        },
+        at5,
+    )
+}
+
+// The place after the text at a place, or 0: for the check, which keeps no text.
+fn text_end(s: &[u8], at: usize) -> usize
+    ensures { λ r. ⌜ r ≡ textEnd (textAt (now (s .entry)) at) ⌝ }
+{
+    let Reading::Number(size, start) = numbers::read(s, at, SIZE_MOST) else {
+        return 0;
+    };
+    let end = units_end(size as usize, start);
+    if s.len() < end {
+        return 0;
+    }
+    if none_zero(&s[start..end]) {
+        return end;
+    }
+    0
+}
+
+// The place after the row at a place, or 0: for the check, which keeps no row.
+fn row_end(s: &[u8], at: usize) -> usize
+    ensures { λ r. ⌜ r ≡ rowEnd (rowAt (now (s .entry)) at) ⌝ }
+{
+    let Reading::Number(_, at1) = numbers::read(s, at, KEY_MOST) else {
+        return 0;
+    };
+    let Reading::Number(_, at2) = numbers::read(s, at1, NUMBER_MOST) else {
+        return 0;
+    };
+    let Reading::Number(_, at3) = numbers::read(s, at2, NUMBER_MOST) else {
+        return 0;
+    };
+    let at4 = text_end(s, at3);
+    if at4 == 0 {
+        return 0;
+    }
+    text_end(s, at4)
+}
+
 // The rows from a place on, each place noted, up to the end of the bytes.
 fn check_rows(s: &[u8], count: u64, first: usize, places: &mut [u32; 1024]) -> bool
     requires { ⌜ (length (now s) ≤ bytesMost) × (first ≤ length (now s)) × (count ≤ rowsMost) ⌝ }
@@ -146,9 +228,10 @@ fn check_rows(s: &[u8], count: u64, first: usize, places: &mut [u32; 1024]) -> b
     let mut i = 0;
     while 0 < left {
         places[i] = at as u32;
-        let RowAt::RowTo(_, next) = read_row(s, at) else {
+        let next = row_end(s, at);
+        if next == 0 {
             return false;
-        };
+        }
         at = next;
         i += 1;
         left -= 1;

@@ -7,7 +7,7 @@ use Prim.Native.Nat.{_+_, _≤_}
 use lib.ListN.{length}
 use lib.Seq.{sets}
 use Rattle.catalogue.specs.Places.{rowsEnd, placesFrom}
-use Rattle.catalogue.proofs.RowLaws.{row-inside, rows-more, rows-bad, places-more, places-bad, rows-none, places-none}
+use Rattle.catalogue.proofs.RowLaws.{row-gone, row-there, row-inside, rows-more, rows-bad, places-more, places-bad, rows-none, places-none}
 
 abbrev Inv-loop : tie.InvT-loop
 Inv-loop s count first places₀ left₀ at₀ i₀ places left at i = (at ≤ length s) × (i + left ≡ count) × (rowsEnd left s at ≡ rowsEnd count s first) × (sets places i (placesFrom left s at) ≡ sets places₀ 0 (placesFrom count s first))
@@ -27,20 +27,14 @@ mul-places c = search needs
 element-write-places : tie.Need-element-write-places Inv-loop μ-loop
 element-write-places c = search needs
 
-read-row-requires : tie.Need-read-row-requires Inv-loop μ-loop
-read-row-requires c κs = search needs
-
-enum-known-next : tie.Need-enum-known-next Inv-loop μ-loop
-enum-known-next c = search needs
-
-enum-told : tie.Need-enum-told Inv-loop μ-loop
-enum-told c = search needs
+row-end-requires : tie.Need-row-end-requires Inv-loop μ-loop
+row-end-requires c κs = search needs
 
 returns : tie.Need-returns Inv-loop μ-loop
 returns c =
-    let l = c .before .before .before .before .loop in
-    let s = c .before .before .before .before .before .before .args .s .now in
-    let e = sym (c .before .before .read-row .ensures) ∙ c .enum-told .given .1 in (
+    let l = c .before .before .before .loop in
+    let s = c .before .before .before .before .before .args .s .now in
+    let e = row-gone s (l .at) (sym (c .before .row-end .ensures) ∙ c .if1 .taken) in (
       sym (rows-bad (l .left) s (l .at) (l .places) (l .i) (search needs) e) ∙ l .inv .2,
       sym (places-bad (l .left) s (l .at) (l .places) (l .i) (search needs) e) ∙ l .inv .3,
     )
@@ -56,11 +50,12 @@ loop-less c = search needs
 
 loop-again : tie.Need-loop-again Inv-loop μ-loop
 loop-again c =
-    let l = c .before .before .before .before .before .loop in
-    let s = c .before .before .before .before .before .before .before .args .s .now in
-    let f = c .before .next .given .0 .0 in
-    let next = c .before .next .given .0 .1 .0 in
-    let e = sym (c .before .before .before .read-row .ensures) ∙ c .before .next .given .1 in (
+    let l = c .before .before .before .loop in
+    let s = c .before .before .before .before .before .args .s .now in
+    let next = c .before .row-end .result in
+    let there = row-there s (l .at) next (c .before .row-end .ensures) (c .if1 .left) in
+    let f = there .0 in
+    let e = there .1 in (
       row-inside s (l .at) f next e,
       search needs,
       rows-more (l .left) s (l .at) (l .places) (l .i) (search needs) f next e ∙ l .inv .2,
@@ -85,9 +80,7 @@ check-rows-spec =
     cast-places
     mul-places
     element-write-places
-    read-row-requires
-    enum-known-next
-    enum-told
+    row-end-requires
     returns
     add-i
     sub-left

@@ -7,8 +7,8 @@ use Rattle.catalogue.specs.Places.{rowOf}
 use Rattle.restriction.specs.Reader.{restriction}
 use Rattle.select.proofs.SelectLaws.{row-inside, no-row, held-told, held-none}
 
-read-row-requires : tie.Need-read-row-requires
-read-row-requires c κs = search needs
+row-again-requires : tie.Need-row-again-requires
+row-again-requires c κs = search needs
 
 enum-known-row : tie.Need-enum-known-row
 enum-known-row c = search needs
@@ -18,12 +18,12 @@ enum-told c = search needs
 
 returns : tie.Need-returns
 returns c = let a = c .before .before .before .before .before .args in
-    no-row (a .catalogue .now) (a .place) (c .before .before .before .before .before .pre) (sym (c .before .before .read-row .ensures) ∙ c .enum-told .given .1)
+    no-row (a .catalogue .now) (a .place) (c .before .before .before .before .before .pre) (sym (c .before .before .row-again .ensures) ∙ c .enum-told .given .1)
 
 tree-requires : tie.Need-tree-requires
 tree-requires c κs = let a = c .before .before .before .before .before .before .args in
     let v = c .before .row .given in
-    row-inside (a .catalogue .now) (a .place) (v .0 .0) (v .0 .1 .0) (sym (c .before .before .before .read-row .ensures) ∙ v .1)
+    row-inside (a .catalogue .now) (a .place) (v .0 .0) (v .0 .1 .0) (sym (c .before .before .before .row-again .ensures) ∙ v .1)
 
 enum-known-holds : tie.Need-enum-known-holds
 enum-known-holds c = search needs
@@ -34,20 +34,20 @@ enum-told-2 c = search needs
 returns-2 : tie.Need-returns-2
 returns-2 c = let a = c .before .before .before .before .before .before .before .before .before .args in
     let v = c .before .before .before .before .row .given in
-    rw (sym (c .before .before .before .before .before .before .read-row .ensures) ∙ v .1)
+    rw (sym (c .before .before .before .before .before .before .row-again .ensures) ∙ v .1)
     (held-none (rowOf (a .catalogue .now) (v .0 .0)) (restriction (a .tree .now)) (sym (c .enum-told2 .given .1) ∙ c .before .before .tree .ensures))
 
 returns-3 : tie.Need-returns-3
 returns-3 c = let a = c .before .before .before .before .before .before .before .before .before .before .args in
     let v = c .before .before .before .before .before .row .given in
-    rw (sym (c .before .before .before .before .before .before .before .read-row .ensures) ∙ v .1)
+    rw (sym (c .before .before .before .before .before .before .before .row-again .ensures) ∙ v .1)
     (held-told (rowOf (a .catalogue .now) (v .0 .0)) (restriction (a .tree .now)) (sym (c .before .holds .given .1) ∙ c .before .before .before .tree .ensures))
 
 pub holds-at-spec : {M : Type 1} → statement M
 holds-at-spec =
     tie.close
     (tie.spec
-    read-row-requires
+    row-again-requires
     enum-known-row
     enum-told
     returns
