@@ -14,8 +14,8 @@ ghost use Rattle.cells.specs.Cell.{cellBytes, blockOf, blockSize, blockSpan, la
 ghost use Rattle.cells.specs.Stands.{TextStands, FieldStands, ColumnIn, ColumnReady};
 use catalogue::Fields;
 use catalogue::Text;
-use columns::Column;
 use cells::FieldAt;
+use columns::Column;
 
 // A text's block: its units and one zero unit.
 fn lay_text(reply: &mut [u8], s: &[u8], text: Text, place: usize)
@@ -118,6 +118,11 @@ pub fn lay_column(
         cells::content(found, offset),
     );
     lay_status(reply, column, row, cells::status(found));
-    lay_length(reply, column, row, cells::length_sent(found, column.property));
+    lay_length(
+        reply,
+        column,
+        row,
+        cells::length_sent(found, column.property),
+    );
     place
 }
