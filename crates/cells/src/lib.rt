@@ -2,7 +2,9 @@
 ghost use mathlib.Core.Path.{_≡_};
 ghost use Prim.Native.Nat.{_+_, _-_, _*_, _<_};
 ghost use lib.ListN.{length};
-ghost use Rattle.catalogue.specs.Places.{rowOf};
+ghost use Rattle.catalogue.specs.Places.{RowThere, rowOf};
+ghost use Rattle.words.specs.Below.{pick};
+ghost use Rattle.columns.specs.Fit.{isUsed};
 ghost use Rattle.columns.specs.Column.{columnsMost, roomWords, columnAt};
 ghost use Rattle.cells.specs.Field.{textFieldAt, fieldAt, fieldSeen};
 ghost use Rattle.cells.specs.Cell.{statusOf, lengthOf, kindOf, contentOf, blockSize, blockRoom};
@@ -51,11 +53,12 @@ pub fn field(fields: Fields, property: u32) -> FieldAt
     text_field(fields.note)
 }
 
-// The fields of the row at a place.
+// The fields of the row at a place that the check noted.
 pub fn fields_at(s: &[u8], at: usize) -> Fields
+    requires { ⌜ RowThere (now s) at ⌝ }
     ensures { λ r. ⌜ r ≡ fieldsSeen (now (s .entry)) at ⌝ }
 {
-    let RowAt::RowTo(fields, _) = catalogue::read_row(s, at) else {
+    let RowAt::RowTo(fields, _) = catalogue::row_again(s, at) else {
         return Fields {
             key: 0,
             language: 0,
@@ -158,13 +161,22 @@ pub fn content(field: FieldAt, offset: u64) -> u64
     }
 }
 
+// The bytes of a field's block where its value is used.
+pub fn room_of(used: u32, field: FieldAt) -> usize
+    requires { ⌜ FieldSmall field ⌝ }
+    ensures { λ r. ⌜ InAny (λ s. FieldStands s field → r ≡ pick (isUsed used) (blockSize (fieldSeen s field)) 0) ⌝ }
+{
+    if used != 1 {
+        return 0;
+    }
+    block_size(field)
+}
+
 // The bytes of a column's block in a row.
 pub fn block_room(column: Column, fields: Fields) -> usize
     requires { ⌜ FieldsSmall fields ⌝ }
     ensures { λ r. ⌜ InAny (λ s. FieldsStand s fields → r ≡ blockRoom column (rowOf s fields)) ⌝ }
 {
-    if column.value.used != 1 {
-        return 0;
-    }
-    block_size(field(fields, column.property))
+    let found = field(fields, column.property);
+    room_of(column.value.used, found)
 }

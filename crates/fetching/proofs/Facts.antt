@@ -12,7 +12,7 @@ use lib.Dec.{leb, ltb, eqb}
 use lib.ListN.{length, getD, take, drop, length-drop}
 use lib.Seq.{take-take, take-all, drop-drop}
 use Rattle.words.specs.Below.{both}
-use Rattle.words.proofs.Below.{both-left, both-right, true≢false}
+use Rattle.words.proofs.Below.{both-left, both-right, both-true}
 use Rattle.catalogue.specs.Plain.{Row, catalogue}
 use Rattle.catalogue.specs.Places.{rowSeen}
 use Rattle.columns.specs.Column.{columnsMost}
@@ -27,7 +27,7 @@ use Rattle.columns.proofs.Sound.{fit-sound}
 use Rattle.refusals.specs.Refusal.{firstCause}
 use Rattle.requests.specs.declared.Request.{Request}
 use Rattle.rows.specs.Page.{rowsAt, returned}
-use Rattle.rows.specs.Ready.{Words}
+use Rattle.rows.specs.Ready.{Words, There}
 use Rattle.fetching.specs.Fetch.{numbered, remaining, earlyCauses, sent}
 use Rattle.fetching.specs.Ready.{rowsOf, Placed, FetchReady}
 
@@ -51,8 +51,24 @@ unfolding every
 numbered-are s places [] p e = refl
 numbered-are s places (k ∷ numbers) p e =
     ap₂ (λ (r : Row) (rows : List Row). r ∷ rows)
-    (p k (ltb-true k (length (rowsOf (catalogue s))) (both-left (ltb k (length (rowsOf (catalogue s)))) _ e)))
+    (p k (ltb-true k (length (rowsOf (catalogue s))) (both-left (ltb k (length (rowsOf (catalogue s)))) _ e)) .1)
     (numbered-are s places numbers p (both-right (ltb k (length (rowsOf (catalogue s)))) _ e))
+
+-- and each stands there
+numbered-there : (s places numbers : List ℕ) → Placed s places → every (λ row. ltb row (length (rowsOf (catalogue s)))) numbers ≡ true
+    → There s places numbers
+unfolding every
+numbered-there s places [] p e i h = absurd (not-suc-le-zero h)
+numbered-there s places (k ∷ numbers) p e zero h =
+    p k (ltb-true k (length (rowsOf (catalogue s))) (both-left (ltb k (length (rowsOf (catalogue s)))) _ e)) .0
+numbered-there s places (k ∷ numbers) p e (suc i) h =
+    numbered-there s places numbers p (both-right (ltb k (length (rowsOf (catalogue s)))) _ e) i (le-of-suc-le-suc h)
+
+every-take : (test : ℕ → Bool) (n : ℕ) (t : List ℕ) → every test t ≡ true → every test (take n t) ≡ true
+unfolding every
+every-take test zero t e = refl
+every-take test (suc n) [] e = refl
+every-take test (suc n) (a ∷ t) e = both-true (test a) _ (both-left (test a) _ e) (every-take test n t (both-right (test a) _ e))
 
 module _ (b s places : List ℕ) (q : Request) (buffer : ℕ) (r : FetchReady b s places q buffer) where
   pub size-is : length b ≡ cursorSize
@@ -81,6 +97,17 @@ module _ (b s places : List ℕ) (q : Request) (buffer : ℕ) (r : FetchReady b 
   rows-are =
       numbered-are s places (drop (getD b 1 0) (cursorHeld b .selection)) (r .placed)
       (every-drop (λ row. ltb row (length (rowsOf (catalogue s)))) (getD b 1 0) (cursorHeld b .selection) (r .below))
+
+  -- the rows that a part of those numbers names
+  pub part-there : (n : ℕ) → getD b 1 0 + n ≤ getD b 2 0 → There s places (take n (drop (50 + getD b 1 0) b))
+  part-there n h =
+      subst (There s places) (sym (numbers-are n h))
+      (numbered-there s places (take n (drop (getD b 1 0) (cursorHeld b .selection))) (r .placed)
+      (every-take (λ row. ltb row (length (rowsOf (catalogue s)))) n (drop (getD b 1 0) (cursorHeld b .selection))
+      (every-drop (λ row. ltb row (length (rowsOf (catalogue s)))) (getD b 1 0) (cursorHeld b .selection) (r .below))))
+
+  pub all-there : There s places (take (50 + getD b 2 0 - (50 + getD b 1 0)) (drop (50 + getD b 1 0) b))
+  all-there = part-there (50 + getD b 2 0 - (50 + getD b 1 0)) (omega (arith, position-most))
 
   pub count-told : returned (cursorHeld b .width) (cursorHeld b .columns) (q .asked) (q .size - q .from)
       (rowsAt s places (take (50 + getD b 2 0 - (50 + getD b 1 0)) (drop (50 + getD b 1 0) b)))

@@ -13,13 +13,13 @@ use Rattle.requests.specs.Request.{Sound}
 use Rattle.requests.specs.declared.Request.{Request}
 use Rattle.rows.specs.Page.{rowsAt, returned, page, statusFor}
 use Rattle.rows.specs.Reads.{rowIn}
-use Rattle.rows.specs.Ready.{PageReady}
+use Rattle.rows.specs.Ready.{There, PageReady}
 use Rattle.rows.proofs.Greatest.{returned-is, returned-room, rows-taken}
 use Rattle.rows.proofs.Reply.{page-is}
 use Rattle.rows.proofs.Told.{told-ready}
 use Rattle.fetching.specs.Fetch.{remaining, earlyCauses, sent, rowsSent, thenLeft, fetchReply}
 use Rattle.fetching.specs.Ready.{rowsOf, FetchReady}
-use Rattle.fetching.proofs.Facts.{count-is, count-most, position-most, numbers-are, rows-are, bindings-fit, words-ready}
+use Rattle.fetching.proofs.Facts.{count-is, count-most, position-most, numbers-are, rows-are, part-there, bindings-fit, words-ready}
 
 -- the rows that remain, and no more than they are sent
 remaining-count : (rows : List Row) (c : Cursor) → length (remaining rows c) ≡ length (c .selection) - c .position
@@ -67,6 +67,10 @@ module _ (b s places : List ℕ) (q : Request) (buffer : ℕ) (r : FetchReady b 
       ap (rowsAt s places) (numbers-sent k e)
       ∙ rows-taken s places (drop (getD b 1 0) (cursorHeld b .selection)) (sent (rowsOf (catalogue s)) (cursorHeld b) q)
       ∙ ap (take (sent (rowsOf (catalogue s)) (cursorHeld b) q)) (rows-are b s places q buffer r)
+
+  pub sent-there : (k : ℕ) → k ≡ sent (rowsOf (catalogue s)) (cursorHeld b) q
+      → There s places (take (50 + getD b 1 0 + k - (50 + getD b 1 0)) (drop (50 + getD b 1 0) b))
+  sent-there k e = part-there b s places q buffer r (50 + getD b 1 0 + k - (50 + getD b 1 0)) (omega (arith, e, sent-most))
 
   module _ (e : firstCause (earlyCauses (cursorHeld b) q) ≡ 0) where
     pub page-ready : (k : ℕ) → k ≡ sent (rowsOf (catalogue s)) (cursorHeld b) q

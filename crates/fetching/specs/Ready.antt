@@ -8,7 +8,7 @@ use lib.Dec.{eqb}
 use lib.ListN.{length, getD, drop}
 use Rattle.words.specs.Below.{both}
 use Rattle.catalogue.specs.Plain.{Row, catalogue}
-use Rattle.catalogue.specs.Places.{rowSeen}
+use Rattle.catalogue.specs.Places.{RowThere, rowSeen}
 use Rattle.sessions.specs.Seat.{Cursor, cursorBlock, cursorHeld}
 use Rattle.sessions.specs.Well.{cursorBelow}
 use Rattle.sessions.specs.Fits.{CursorFits}
@@ -26,7 +26,8 @@ rowsOf (some rows) = rows
 -- each row stands at its place
 abbrev pub Placed : List ℕ → List ℕ → Type 0
 Placed s places =
-    (k : ℕ) → k < length (rowsOf (catalogue s)) → rowSeen s (getD places k 0) ≡ rowIn (rowsOf (catalogue s)) k
+    (k : ℕ) → k < length (rowsOf (catalogue s))
+    → RowThere s (getD places k 0) × (rowSeen s (getD places k 0) ≡ rowIn (rowsOf (catalogue s)) k)
 
 -- nothing is sent, though a row is asked for and the position has not passed all: refusal 15 by the count
 abbrev pub stuck : ℕ → ℕ → ℕ → ℕ → Bool

@@ -106,8 +106,8 @@ pub fn lay_column(
     ensures { λ r. ⌜ r ≡ top - blockRoom column (rowOf (now (s .entry)) fields) ⌝ }
     ensures { λ r. ⌜ now (reply .exit) ≡ lays (now (reply .entry)) (columnSpans base row r column (rowOf (now (s .entry)) fields)) ⌝ }
 {
-    let place = top - cells::block_room(column, fields);
     let found = cells::field(fields, column.property);
+    let place = top - cells::room_of(column.value.used, found);
     lay_block(reply, s, column.value.used, found, place);
     let offset = base + (place as u64);
     lay_value(

@@ -1,11 +1,13 @@
 -- Fit bindings: each column's used spans lie in the row. Assumes nothing.
-use mathlib.Core.Path.{_≡_, subst}
+use mathlib.Core.Path.{_≡_, sym, subst}
 use mathlib.Core.Bool.{true}
 use mathlib.Core.List.{List}
 use Prim.Native.Nat.{ℕ, zero, suc, _+_, _≤_, _<_}
 use native.Mathlib.Nat.{add-zero, not-suc-le-zero, le-of-suc-le-suc}
 use native.Mathlib.Omega.{arith}
 use borrow.Author.Tests.{leb-true}
+use lib.ListN.{length, getD}
+use Rattle.catalogue.specs.Places.{RowThere}
 use Rattle.columns.specs.Column.{columnsMost, columnAt, columnsFrom, columnsOf}
 use Rattle.columns.specs.Property.{statusSize, lengthSize}
 use Rattle.columns.specs.Fit.{fit}
@@ -13,7 +15,7 @@ use Rattle.columns.specs.declared.Column.{Column}
 use Rattle.columns.proofs.Columns.{from-length}
 use Rattle.columns.proofs.Sound.{fit-sound}
 use Rattle.cells.specs.Stands.{ColumnIn}
-use Rattle.rows.specs.Ready.{ColumnsIn}
+use Rattle.rows.specs.Ready.{ColumnsIn, There}
 use Rattle.rows.proofs.Parts.{Good, good, First, first}
 
 -- a row of a width that lies in n bytes has its columns there
@@ -58,3 +60,7 @@ module _ (width bound : ℕ) (words : List ℕ) (fits : fit width (columnsOf bou
     where
       here : 0 + k ≡ k
       here = omega arith
+
+-- a row stands at the place that was looked up
+pub there-at : (s places numbers : List ℕ) (i at : ℕ) → There s places numbers → i < length numbers → at ≡ getD places (getD numbers i 0) 0 → RowThere s at
+there-at s places numbers i at t h e = subst (RowThere s) (sym e) (t i h)

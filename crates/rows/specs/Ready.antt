@@ -3,10 +3,10 @@ use mathlib.Core.Path.{_≡_}
 use mathlib.Core.Bool.{true}
 use mathlib.Core.List.{List, [], _∷_}
 use Prim.Native.Nat.{ℕ, _+_, _*_, _^_, _≤_, _<_}
-use lib.ListN.{length}
+use lib.ListN.{length, getD}
 use Rattle.catalogue.specs.Limits.{rowsMost}
 use Rattle.catalogue.specs.Plain.{Row}
-use Rattle.catalogue.specs.Places.{rowSeen}
+use Rattle.catalogue.specs.Places.{RowThere, rowSeen}
 use Rattle.columns.specs.Column.{roomWords, columnsMost, columnAt, columnsOf}
 use Rattle.columns.specs.Fit.{fit}
 use Rattle.columns.specs.declared.Column.{Column}
@@ -18,6 +18,10 @@ use Rattle.rows.specs.Page.{blocks, allBlocks}
 pub record Words (words : List ℕ) (bound : ℕ) : Type 0 where
   pub long : length words ≡ roomWords
   pub few : bound ≤ columnsMost
+
+-- each row that has one of these numbers stands at its place
+abbrev pub There : List ℕ → List ℕ → List ℕ → Type 0
+There s places numbers = (i : ℕ) → i < length numbers → RowThere s (getD places (getD numbers i 0) 0)
 
 -- the blocks of a row take at most this: five columns, each with a text of at most 2,048 units and its zero unit
 abbrev pub blockMost : ℕ
@@ -37,6 +41,7 @@ needed width columns (r ∷ rows) = width + blocks columns r + needed width colu
 
 -- a row in a reply of n bytes
 pub record RowReady (n : ℕ) (s : List ℕ) (at : ℕ) (words : List ℕ) (bound base row top : ℕ) : Type 0 where
+  pub there : RowThere s at
   pub given : Words words bound
   pub columns : ColumnsIn n row words bound
   pub room : blocks (columnsOf bound words) (rowSeen s at) ≤ top

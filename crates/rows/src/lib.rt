@@ -2,12 +2,12 @@
 ghost use mathlib.Core.Path.{_≡_};
 ghost use Prim.Native.Nat.{_-_, _≤_};
 ghost use lib.ListN.{length, getD};
-ghost use Rattle.catalogue.specs.Places.{rowSeen};
+ghost use Rattle.catalogue.specs.Places.{RowThere, rowSeen};
 ghost use Rattle.columns.specs.Column.{columnsOf};
 ghost use Rattle.columns.specs.Fit.{rowMost};
 ghost use Rattle.spans.specs.Laid.{lays};
 ghost use Rattle.rows.specs.Page.{rowsAt, blocks, returned, rowSpans, rowsSpans, page, statusFor};
-ghost use Rattle.rows.specs.Ready.{Words, blocksMost, RowReady, RowsReady, PageReady};
+ghost use Rattle.rows.specs.Ready.{Words, There, blocksMost, RowReady, RowsReady, PageReady};
 
 const ROWS_MESSAGE: u32 = 0xCC;
 
@@ -30,7 +30,7 @@ fn place_of(places: &[u32], row: Row) -> usize
 
 // The bytes of the blocks of the row at a place.
 fn row_blocks(s: &[u8], at: usize, words: &[u32], bound: usize) -> usize
-    requires { ⌜ Words (now words) bound ⌝ }
+    requires { ⌜ Words (now words) bound × RowThere (now s) at ⌝ }
     ensures { λ r. ⌜ (r ≡ blocks (columnsOf bound (now (words .entry))) (rowSeen (now (s .entry)) at)) × (r ≤ blocksMost) ⌝ }
 {
     let fields = cells::fields_at(s, at);
@@ -57,7 +57,7 @@ pub fn count(
     room: usize,
     asked: usize,
 ) -> usize
-    requires { ⌜ Words (now words) bound × (width ≤ rowMost) ⌝ }
+    requires { ⌜ Words (now words) bound × (width ≤ rowMost) × There (now s) (now places) (now numbers) ⌝ }
     ensures { λ r. ⌜ r ≡ returned width (columnsOf bound (now (words .entry))) asked room (rowsAt (now (s .entry)) (now (places .entry)) (now (numbers .entry))) ⌝ }
 {
     let mut left = room;
@@ -119,7 +119,7 @@ fn lay_rows(
     from: usize,
     size: usize,
 )
-    requires { ⌜ RowsReady (length (now reply)) (now words) bound width (rowsAt (now s) (now places) (now numbers)) base from size ⌝ }
+    requires { ⌜ RowsReady (length (now reply)) (now words) bound width (rowsAt (now s) (now places) (now numbers)) base from size × There (now s) (now places) (now numbers) ⌝ }
     ensures { λ _. ⌜ now (reply .exit) ≡ lays (now (reply .entry)) (rowsSpans base width from size (columnsOf bound (now (words .entry))) (rowsAt (now (s .entry)) (now (places .entry)) (now (numbers .entry)))) ⌝ }
 {
     let mut row = from;
@@ -158,7 +158,7 @@ pub fn page(
     base: u64,
     status: u32,
 )
-    requires { ⌜ PageReady (length (now reply)) (now words) bound width (rowsAt (now s) (now places) (now numbers)) size from base ⌝ }
+    requires { ⌜ PageReady (length (now reply)) (now words) bound width (rowsAt (now s) (now places) (now numbers)) size from base × There (now s) (now places) (now numbers) ⌝ }
     ensures { λ _. ⌜ now (reply .exit) ≡ page size from width base status (columnsOf bound (now (words .entry))) (rowsAt (now (s .entry)) (now (places .entry)) (now (numbers .entry))) (now (reply .entry)) ⌝ }
 {
     spans::clear_first(reply, size);

@@ -33,7 +33,10 @@ row-at s (p ∷ at) zero h = refl
 row-at s (p ∷ at) (suc k) h = row-at s at k (le-of-suc-le-suc h)
 
 pub noted-placed : (s : List ℕ) (rows : ℕ) (held : List ℕ) → Noted s rows held → Placed s held
-noted-placed s rows held n = rw seen (λ k h. ap (rowSeen s) (Laws.noted-at s rows held n k (inside k h)) ∙ sym (row-at s (places s) k (before k h)))
+noted-placed s rows held n =
+    rw seen
+    (λ k h.
+    (Laws.stands s rows held n k (inside k h), ap (rowSeen s) (Laws.noted-at s rows held n k (inside k h)) ∙ sym (row-at s (places s) k (before k h))))
   where
     seen : rowsOf (catalogue s) ≡ map (rowSeen s) (places s)
     seen = rw (catalogue-agrees s, Laws.well-formed s rows held n)

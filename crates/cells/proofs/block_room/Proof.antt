@@ -1,27 +1,25 @@
--- Nothing where the value is not used, else the size of the field's block. Assumes nothing.
+-- The field is found, and then its room. Assumes nothing.
 use borrow.Author.Needs.{needs}
 use Rattle.cells.proofs.block_room.Statement.{statement}
 use Rattle.cells.proofs.block_room.Tie as tie
-use mathlib.Core.Path.{_∙_, ap}
-use borrow.Author.Tests.{eq-eqb, ne-eqb}
-use Rattle.cells.proofs.Fields.{field-small}
 use Rattle.cells.proofs.Column.{found-stands, found-is}
+use Rattle.cells.proofs.Fields.{field-small}
 use Rattle.cells.specs.Cell.{blockSize}
-
-returns : tie.Need-returns
-returns c = λ s h. rw (ne-eqb (c .before .before .args .column .value .used) 1 (c .if1 .taken))
+use Rattle.cells.specs.Field.{Field}
+use Rattle.columns.specs.Fit.{isUsed}
+use Rattle.words.specs.Below.{pick}
+use mathlib.Core.Path.{_∙_, ap}
 
 field-requires : tie.Need-field-requires
 field-requires c κs = search needs
 
-block-size-requires : tie.Need-block-size-requires
-block-size-requires c κs = let a = c .before .before .before .args in rw (c .field .ensures) (field-small (a .column .property) (a .fields) (c .before .before .before .pre))
+room-of-requires : tie.Need-room-of-requires
+room-of-requires c κs = let a = c .before .args in rw (c .field .ensures) (field-small (a .column .property) (a .fields) (c .before .pre))
 
-returns-2 : tie.Need-returns-2
-returns-2 c = λ s h. let a = c .before .before .before .before .args in
-    rw (eq-eqb (a .column .value .used) 1 (c .before .before .if1 .left))
-    (c .block-size .ensures s (found-stands s (a .fields) (a .column) (c .before .field .result) h (c .before .field .ensures))
-    ∙ ap blockSize (found-is s (a .fields) (a .column) (c .before .field .result) h (c .before .field .ensures)))
+returns : tie.Need-returns
+returns c = λ s h. let a = c .before .before .args in
+    c .room-of .ensures s (found-stands s (a .fields) (a .column) (c .before .field .result) h (c .before .field .ensures))
+    ∙ ap (λ (f : Field). pick (isUsed (a .column .value .used)) (blockSize f) 0) (found-is s (a .fields) (a .column) (c .before .field .result) h (c .before .field .ensures))
 
 pub block-room-spec : {M : Type 1} → statement M
-block-room-spec = tie.close (tie.spec returns field-requires block-size-requires returns-2)
+block-room-spec = tie.close (tie.spec field-requires room-of-requires returns)

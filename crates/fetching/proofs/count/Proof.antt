@@ -2,7 +2,7 @@
 use borrow.Author.Needs.{needs}
 use Rattle.fetching.proofs.count.Statement.{statement}
 use Rattle.fetching.proofs.count.Tie as tie
-use Rattle.fetching.proofs.Facts.{count-told}
+use Rattle.fetching.proofs.Facts.{count-told, all-there}
 use Rattle.fetching.proofs.Facts.{size-is, count-most, position-most, numbers-are, rows-are, words-ready, width-most}
 use native.Mathlib.Omega.{arith}
 use mathlib.Core.Path.{sym, ap, _∙_}
@@ -68,7 +68,7 @@ cast-count : tie.Need-cast-count
 cast-count c = search needs
 
 count-requires : tie.Need-count-requires
-count-requires c κs = let r = c .before .before .before .before .before .before .before .before .before .before .before .pre .0 in (words-ready _ _ _ _ _ r (c .before .before .before .before .before .before .before .before .before .before .before .pre .1), width-most _ _ _ _ _ r (c .before .before .before .before .before .before .before .before .before .before .before .pre .1))
+count-requires c κs = let r = c .before .before .before .before .before .before .before .before .before .before .before .pre .0 in (words-ready _ _ _ _ _ r (c .before .before .before .before .before .before .before .before .before .before .before .pre .1), width-most _ _ _ _ _ r (c .before .before .before .before .before .before .before .before .before .before .before .pre .1), all-there _ _ _ _ _ r)
 
 returns : tie.Need-returns
 returns c = c .count .ensures ∙ count-told _ _ _ _ _ (c .before .before .before .before .before .before .before .before .before .before .before .before .pre .0)

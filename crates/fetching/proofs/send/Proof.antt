@@ -2,7 +2,7 @@
 use borrow.Author.Needs.{needs}
 use Rattle.fetching.proofs.send.Statement.{statement}
 use Rattle.fetching.proofs.send.Tie as tie
-use Rattle.fetching.proofs.Sending.{sent-most, page-ready, page-sent}
+use Rattle.fetching.proofs.Sending.{sent-most, sent-there, page-ready, page-sent}
 use Rattle.fetching.proofs.Facts.{size-is, count-most, position-most, words-ready, width-most}
 use native.Mathlib.Omega.{arith}
 
@@ -76,7 +76,7 @@ cast-page-3 : tie.Need-cast-page-3
 cast-page-3 c = search needs
 
 page-requires : tie.Need-page-requires
-page-requires c κs = page-ready _ _ _ _ _ (c .before .before .before .before .before .before .before .before .before .before .before .before .before .before .before .pre .0) (c .before .before .before .before .before .before .before .before .before .before .before .before .before .before .before .pre .1) _ (c .before .before .before .before .before .before .before .before .before .before .before .before .before .before .before .pre .2)
+page-requires c κs = (page-ready _ _ _ _ _ (c .before .before .before .before .before .before .before .before .before .before .before .before .before .before .before .pre .0) (c .before .before .before .before .before .before .before .before .before .before .before .before .before .before .before .pre .1) _ (c .before .before .before .before .before .before .before .before .before .before .before .before .before .before .before .pre .2), sent-there _ _ _ _ _ (c .before .before .before .before .before .before .before .before .before .before .before .before .before .before .before .pre .0) _ (c .before .before .before .before .before .before .before .before .before .before .before .before .before .before .before .pre .2))
 
 same-length : tie.Need-same-length
 same-length c = search needs

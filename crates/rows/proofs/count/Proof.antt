@@ -8,6 +8,7 @@ use native.Mathlib.Omega.{arith}
 use lib.ListN.{drop}
 use Rattle.columns.specs.Column.{columnsOf}
 use Rattle.rows.specs.Page.{rowsAt, returned}
+use Rattle.rows.proofs.Bound.{there-at}
 use Rattle.rows.proofs.Steps.{rows-none, returned-start, returned-asked, returned-left, count-full, count-more}
 
 abbrev Inv-loop : tie.InvT-loop
@@ -34,7 +35,7 @@ place-of-requires : tie.Need-place-of-requires Inv-loop μ-loop
 place-of-requires c κs = search needs
 
 row-blocks-requires : tie.Need-row-blocks-requires Inv-loop μ-loop
-row-blocks-requires c κs = c .before .before .before .before .before .before .before .before .before .pre .0
+row-blocks-requires c κs = let a = c .before .before .before .before .before .before .before .before .before .args in let p = c .before .before .before .before .before .before .before .before .before .pre in (p .0, there-at (a .s .now) (a .places .now) (a .numbers .now) (c .before .before .before .before .loop .sent) _ (p .2) (c .before .before .if1 .left) (c .place-of .ensures))
 
 add-need : tie.Need-add-need Inv-loop μ-loop
 add-need c = omega (arith, c .row-blocks .ensures .1, c .before .before .before .before .before .before .before .before .before .before .pre .1)

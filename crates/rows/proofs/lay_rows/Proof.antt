@@ -10,7 +10,7 @@ use Rattle.columns.specs.Column.{columnAt, columnsOf}
 use Rattle.spans.specs.Laid.{lays}
 use Rattle.rows.specs.Page.{rowsAt, rowsSpans}
 use Rattle.rows.specs.Ready.{needed}
-use Rattle.rows.proofs.Bound.{column-in}
+use Rattle.rows.proofs.Bound.{column-in, there-at}
 use Rattle.rows.proofs.Steps.{needs-step, rows-step, rows-end}
 
 abbrev Inv-loop : tie.InvT-loop
@@ -20,7 +20,7 @@ abbrev μ-loop : tie.MeasureT-loop
 μ-loop reply₀ s places numbers words bound width base from size row₀ top₀ i₀ reply row top i = length numbers - i
 
 loop-holds : tie.Need-loop-holds Inv-loop μ-loop
-loop-holds c = let p = c .before .before .before .before .before .pre in (refl, omega arith, p .room, omega arith, refl)
+loop-holds c = let p = c .before .before .before .before .before .pre .0 in (refl, omega arith, p .room, omega arith, refl)
 
 mul-number : tie.Need-mul-number Inv-loop μ-loop
 mul-number c = search needs
@@ -32,9 +32,10 @@ place-of-requires : tie.Need-place-of-requires Inv-loop μ-loop
 place-of-requires c κs = search needs
 
 lay-row-requires : tie.Need-lay-row-requires Inv-loop μ-loop
-lay-row-requires c κs = let a = c .before .before .before .before .before .before .before .before .before .before .args in let p = c .before .before .before .before .before .before .before .before .before .before .pre in let l = c .before .before .before .before .loop in
+lay-row-requires c κs = let a = c .before .before .before .before .before .before .before .before .before .before .args in let p = c .before .before .before .before .before .before .before .before .before .before .pre .0 in let l = c .before .before .before .before .loop in
     let step = needs-step (a .s .now) (a .places .now) (a .numbers .now) (l .i) (c .before .place-of .result) (c .before .before .before .loop-test .taken) (c .before .place-of .ensures) (a .width) (columnsOf (a .bound) (a .words .now)) in
     record {
+      there = there-at (a .s .now) (a .places .now) (a .numbers .now) (l .i) _ (c .before .before .before .before .before .before .before .before .before .before .pre .1) (c .before .before .before .loop-test .taken) (c .before .place-of .ensures);
       given = p .given;
       columns = λ k h. column-in (a .width) _ (l .row) (columnAt (a .words .now) k) (omega (arith, step, l .inv, p .ends)) (p .columns k h);
       room = omega (arith, step, l .inv .2);
@@ -43,7 +44,7 @@ lay-row-requires c κs = let a = c .before .before .before .before .before .befo
     }
 
 add-row : tie.Need-add-row Inv-loop μ-loop
-add-row c = let a = c .before .before .before .before .before .before .before .before .before .before .before .before .before .args in let p = c .before .before .before .before .before .before .before .before .before .before .before .before .before .pre in let l = c .before .before .before .before .before .before .before .loop in
+add-row c = let a = c .before .before .before .before .before .before .before .before .before .before .before .before .before .args in let p = c .before .before .before .before .before .before .before .before .before .before .before .before .before .pre .0 in let l = c .before .before .before .before .before .before .before .loop in
     let step = needs-step (a .s .now) (a .places .now) (a .numbers .now) (l .i) (c .before .before .before .before .place-of .result) (c .before .before .before .before .before .before .loop-test .taken) (c .before .before .before .before .place-of .ensures) (a .width) (columnsOf (a .bound) (a .words .now)) in
     omega (arith, step, l .inv, p .ends, c .before .before .before .before .before .before .before .before .before .before .before .before .before .good .0)
 
@@ -54,7 +55,7 @@ loop-less : tie.Need-loop-less Inv-loop μ-loop
 loop-less c = search needs
 
 loop-again : tie.Need-loop-again Inv-loop μ-loop
-loop-again c = let a = c .before .before .before .before .before .before .before .before .before .before .before .before .before .args in let p = c .before .before .before .before .before .before .before .before .before .before .before .before .before .pre in let l = c .before .before .before .before .before .before .before .loop in let columns = columnsOf (a .bound) (a .words .now) in
+loop-again c = let a = c .before .before .before .before .before .before .before .before .before .before .before .before .before .args in let p = c .before .before .before .before .before .before .before .before .before .before .before .before .before .pre .0 in let l = c .before .before .before .before .before .before .before .loop in let columns = columnsOf (a .bound) (a .words .now) in
     let step = needs-step (a .s .now) (a .places .now) (a .numbers .now) (l .i) (c .before .before .before .before .place-of .result) (c .before .before .before .before .before .before .loop-test .taken) (c .before .before .before .before .place-of .ensures) (a .width) columns in
     let place = c .before .before .lay-row .ensures .0 in (
       c .before .before .lay-row .kept .0 ∙ l .inv .0,

@@ -21,27 +21,27 @@ lay-header-requires c κs = search needs
 
 cast-rows : tie.Need-cast-rows
 cast-rows c = let a = c .before .before .before .before .before .before .before .before .before .before .before .before .before .args in
-    omega (arith, c .before .before .before .before .before .before .before .before .before .before .before .before .before .pre .few, length-map (a .numbers .now) (λ (k : ℕ). rowSeen (a .s .now) (getD (a .places .now) k 0)))
+    omega (arith, c .before .before .before .before .before .before .before .before .before .before .before .before .before .pre .0 .few, length-map (a .numbers .now) (λ (k : ℕ). rowSeen (a .s .now) (getD (a .places .now) k 0)))
 
 lay-four-requires : tie.Need-lay-four-requires
 lay-four-requires c κs = search needs
 
 lay-rows-requires : tie.Need-lay-rows-requires
-lay-rows-requires c κs = let a = c .before .before .before .before .before .before .before .before .before .before .before .before .before .before .before .before .before .before .args in let p = c .before .before .before .before .before .before .before .before .before .before .before .before .before .before .before .before .before .before .pre in
+lay-rows-requires c κs = let a = c .before .before .before .before .before .before .before .before .before .before .before .before .before .before .before .before .before .before .args in let p = c .before .before .before .before .before .before .before .before .before .before .before .before .before .before .before .before .before .before .pre .0 in
     let rows = rowsAt (a .s .now) (a .places .now) (a .numbers .now) in
-    record {
+    (record {
       given = record { long = p .long; few = bound-few (a .width) (a .bound) (a .words .now) (p .fits) };
       columns = bound-in (a .width) (a .bound) (a .words .now) (p .fits);
       room = omega (arith, p .room, needs-are (a .width) (columnsOf (a .bound) (a .words .now)) rows);
       ends = omega (arith, p .ends, c .before .before .before .lay-four .kept .0, c .before .before .before .before .before .before .before .lay-header .kept .0, c .before .before .before .before .before .before .before .before .before .before .before .clear-first .kept .0);
       offset = p .offset;
-    }
+    }, c .before .before .before .before .before .before .before .before .before .before .before .before .before .before .before .before .before .before .pre .1)
 
 same-length : tie.Need-same-length
 same-length c = search needs
 
 returns : tie.Need-returns
-returns c = let a = c .before .before .before .before .before .before .before .before .before .before .before .before .before .before .before .before .before .before .before .before .before .args in let p = c .before .before .before .before .before .before .before .before .before .before .before .before .before .before .before .before .before .before .before .before .before .pre in
+returns c = let a = c .before .before .before .before .before .before .before .before .before .before .before .before .before .before .before .before .before .before .before .before .before .args in let p = c .before .before .before .before .before .before .before .before .before .before .before .before .before .before .before .before .before .before .before .before .before .pre .0 in
     page-laid (a .reply .now) (c .before .before .before .before .before .before .before .before .before .before .before .before .before .before .clear-first .last .0) (c .before .before .before .before .before .before .before .before .before .before .lay-header .last .0) (c .before .before .before .before .before .before .lay-four .last .0) (c .before .before .lay-rows .last .0)
     (a .size) (a .from) (a .width) (a .base) (a .status) (length (a .numbers .now)) (columnsOf (a .bound) (a .words .now)) (rowsAt (a .s .now) (a .places .now) (a .numbers .now))
     (c .before .before .before .before .before .before .before .before .before .before .before .before .before .before .clear-first .ensures) (c .before .before .before .before .before .before .before .before .before .before .lay-header .ensures) (c .before .before .before .before .before .before .lay-four .ensures) (c .before .before .lay-rows .ensures)

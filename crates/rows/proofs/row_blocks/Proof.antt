@@ -22,13 +22,13 @@ abbrev μ-loop : tie.MeasureT-loop
 μ-loop s at words bound fields total₀ k₀ left₀ total k left = left
 
 fields-at-requires : tie.Need-fields-at-requires Inv-loop μ-loop
-fields-at-requires c κs = search needs
+fields-at-requires c κs = c .before .before .pre .1
 
 loop-holds : tie.Need-loop-holds Inv-loop μ-loop
 loop-holds c = (omega arith, omega arith, omega arith)
 
 column-at-requires : tie.Need-column-at-requires Inv-loop μ-loop
-column-at-requires c κs = let p = c .before .before .before .before .before .pre in (p .long, omega (arith, p .few))
+column-at-requires c κs = let p = c .before .before .before .before .before .pre .0 in (p .long, omega (arith, p .few))
 
 block-room-requires : tie.Need-block-room-requires Inv-loop μ-loop
 block-room-requires c κs = let a = c .before .before .before .before .before .before .args in
@@ -37,7 +37,7 @@ block-room-requires c κs = let a = c .before .before .before .before .before .b
 add-total : tie.Need-add-total Inv-loop μ-loop
 add-total c = let a = c .before .before .before .before .before .before .before .args in let f = c .before .before .before .before .fields-at .result in
     let st = fields-stand (a .s .now) (a .at) f (c .before .before .before .before .fields-at .ensures) in
-    omega (arith, c .block-room .ensures (a .s .now) st, room-small (a .s .now) f (c .before .column-at .result) st, c .before .before .before .before .before .before .before .pre .few)
+    omega (arith, c .block-room .ensures (a .s .now) st, room-small (a .s .now) f (c .before .column-at .result) st, c .before .before .before .before .before .before .before .pre .0 .few)
 
 add-k : tie.Need-add-k Inv-loop μ-loop
 add-k c = search needs
@@ -56,7 +56,7 @@ loop-again c = let a = c .before .before .before .before .before .before .before
 
 returns : tie.Need-returns Inv-loop μ-loop
 returns c = let a = c .before .before .before .before .before .args in let f = c .before .before .fields-at .result in let l = c .before .loop in
-    (rw (← (fields-row (a .s .now) (a .at) f (c .before .before .fields-at .ensures))) (omega (arith, l .inv .2, blocks-none (l .left) (l .k) (a .words .now) (rowOf (a .s .now) f) (omega arith))), omega (arith, c .before .before .before .before .before .pre .few))
+    (rw (← (fields-row (a .s .now) (a .at) f (c .before .before .fields-at .ensures))) (omega (arith, l .inv .2, blocks-none (l .left) (l .k) (a .words .now) (rowOf (a .s .now) f) (omega arith))), omega (arith, c .before .before .before .before .before .pre .0 .few))
 
 pub row-blocks-spec : {M : Type 1} → statement M
 row-blocks-spec =
