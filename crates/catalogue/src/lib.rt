@@ -6,7 +6,7 @@ ghost use lib.Seq.{sets};
 ghost use Rattle.words.specs.Word.{halves};
 ghost use Rattle.catalogue.specs.Limits.{rowsMost, sizeMost, bytesMost};
 ghost use Rattle.catalogue.specs.Plain.{noneZero};
-ghost use Rattle.catalogue.specs.Places.{textAfterAt, textAt, rowAt, TextThere, RowThere, textEnd, rowEnd, unitBytesOf, unitsPart, rowsEnd, placesFrom, checked, noted};
+ghost use Rattle.catalogue.specs.Places.{textAt, rowAt, TextThere, RowThere, textEnd, rowEnd, unitBytesOf, unitsPart, rowsEnd, placesFrom, checked, noted};
 use numbers::Reading;
 
 pub const ROWS_MOST: u64 = 1024;
@@ -77,62 +77,6 @@ fn units_end(size: usize, start: usize) -> usize
         return start;
     }
     start + 2 * (size - 1)
-}
-
-// The units of a text whose size was read.
-fn read_units(s: &[u8], size: usize, start: usize) -> TextAt
-    requires { ⌜ (start ≤ length (now s)) × (size ≤ 2049) ⌝ }
-    ensures { λ r. ⌜ r ≡ textAfterAt (now (s .entry)) size start ⌝ }
-{
-    let end = units_end(size, start);
-    if s.len() < end {
-        return TextAt::NoText;
-    }
-    if none_zero(&s[start..end]) {
-        return TextAt::TextTo(Text { size, start }, end);
-    }
-    TextAt::NoText
-}
-
-// The text at a place.
-pub fn read_text(s: &[u8], at: usize) -> TextAt
-    ensures { λ r. ⌜ r ≡ textAt (now (s .entry)) at ⌝ }
-{
-    let Reading::Number(size, start) = numbers::read(s, at, SIZE_MOST) else {
-        return TextAt::NoText;
-    };
-    read_units(s, size as usize, start)
-}
-
-// The row at a place.
-pub fn read_row(s: &[u8], at: usize) -> RowAt
-    ensures { λ r. ⌜ r ≡ rowAt (now (s .entry)) at ⌝ }
-{
-    let Reading::Number(key, at1) = numbers::read(s, at, KEY_MOST) else {
-        return RowAt::NoRow;
-    };
-    let Reading::Number(language, at2) = numbers::read(s, at1, NUMBER_MOST) else {
-        return RowAt::NoRow;
-    };
-    let Reading::Number(default, at3) = numbers::read(s, at2, NUMBER_MOST) else {
-        return RowAt::NoRow;
-    };
-    let TextAt::TextTo(label, at4) = read_text(s, at3) else {
-        return RowAt::NoRow;
-    };
-    let TextAt::TextTo(note, at5) = read_text(s, at4) else {
-        return RowAt::NoRow;
-    };
-    RowAt::RowTo(
-        Fields {
-            key,
-            language,
-            default,
-            label,
-            note,
-        },
-        at5,
-    )
 }
 
 // The text that is known to stand at a place: its units are not looked at again.
