@@ -1,34 +1,35 @@
+-- The words are read from left to right. Assumes nothing.
+use mathlib.Core.Path.{sym, _∙_}
+use native.Mathlib.Omega.{arith}
+use borrow.Author.Tests.{lt-ltb, le-ltb}
+use Rattle.lexing.specs.Line.{catalogueFrom}
 use borrow.Author.Needs.{needs}
 use Rattle.lexing.proofs.catalogue.Statement.{statement}
 use Rattle.lexing.proofs.catalogue.Tie as tie
-use Rattle.lexing.proofs.catalogue.Reads as reads
-use Rattle.lexing.proofs.catalogue.Lts as lts
-use Rattle.lexing.proofs.hex_word.Reads as hex-word-reads
-use Rattle.lexing.proofs.whole.Reads as whole-reads
 
--- src/lib.rt:109:11
 hex-word-requires : tie.Need-hex-word-requires
 hex-word-requires c κs = search needs
 
--- src/lib.rt:110:20
 enum-known-reason : tie.Need-enum-known-reason
 enum-known-reason c = search needs
 
--- src/lib.rt:111:17
 enum-known-first : tie.Need-enum-known-first
 enum-known-first c = search needs
 
--- src/lib.rt:111:38
 whole-requires : tie.Need-whole-requires
-whole-requires c κs = ?
+whole-requires c κs = let h = rw (c .before .first .given .1) at (c .before .before .before .hex-word .ensures .1) in (h .2, (h .0, omega arith, h .3))
 
--- src/lib.rt:105:1
 returns : tie.Need-returns
-returns c = ?
+unfolding catalogueFrom
+returns c =
+    let e1 = sym (c .before .before .before .hex-word .ensures .0) ∙ c .before .reason .given .1 in
+    (rw e1, omega arith)
 
--- src/lib.rt:105:1
 returns-2 : tie.Need-returns-2
-returns-2 c = ?
+unfolding catalogueFrom
+returns-2 c =
+    let e1 = sym (c .before .before .before .before .hex-word .ensures .0) ∙ c .before .before .first .given .1 in
+    (rw e1 (c .whole .ensures .0), c .whole .ensures .1)
 
 pub catalogue-spec : {M : Type 1} → statement M
 catalogue-spec =

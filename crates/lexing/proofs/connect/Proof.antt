@@ -1,50 +1,52 @@
+-- The words are read from left to right. Assumes nothing.
+use mathlib.Core.Path.{sym, _∙_}
+use native.Mathlib.Omega.{arith}
+use borrow.Author.Tests.{lt-ltb, le-ltb}
+use Rattle.lexing.specs.Line.{connectFrom}
 use borrow.Author.Needs.{needs}
 use Rattle.lexing.proofs.connect.Statement.{statement}
 use Rattle.lexing.proofs.connect.Tie as tie
-use Rattle.lexing.proofs.connect.Reads as reads
-use Rattle.lexing.proofs.connect.Lts as lts
-use Rattle.lexing.proofs.number_word.Reads as number-word-reads
-use Rattle.lexing.proofs.whole.Reads as whole-reads
 
--- src/lib.rt:119:11
 number-word-requires : tie.Need-number-word-requires
 number-word-requires c κs = search needs
 
--- src/lib.rt:120:23
 enum-known-reason : tie.Need-enum-known-reason
 enum-known-reason c = search needs
 
--- src/lib.rt:121:20
 enum-known-seat : tie.Need-enum-known-seat
 enum-known-seat c = search needs
 
--- src/lib.rt:121:41
 number-word-requires-2 : tie.Need-number-word-requires-2
-number-word-requires-2 c κs = ?
+number-word-requires-2 c κs = rw (c .before .seat .given .1) at (c .before .before .before .number-word .ensures .1)
 
--- src/lib.rt:122:27
 enum-known-reason-2 : tie.Need-enum-known-reason-2
 enum-known-reason-2 c = search needs
 
--- src/lib.rt:123:24
 enum-known-version : tie.Need-enum-known-version
 enum-known-version c = search needs
 
--- src/lib.rt:123:41
 whole-requires : tie.Need-whole-requires
-whole-requires c κs = ?
+whole-requires c κs = (rw (c .before .version .given .1) at (c .before .before .before .number-word2 .ensures .1), omega arith)
 
--- src/lib.rt:115:1
 returns : tie.Need-returns
-returns c = ?
+unfolding connectFrom
+returns c =
+    let e1 = sym (c .before .before .before .number-word .ensures .0) ∙ c .before .reason .given .1 in
+    (rw e1, omega arith)
 
--- src/lib.rt:115:1
 returns-2 : tie.Need-returns-2
-returns-2 c = ?
+unfolding connectFrom
+returns-2 c =
+    let e1 = sym (c .before .before .before .before .before .before .before .number-word .ensures .0) ∙ c .before .before .before .before .before .seat .given .1 in
+    let e2 = sym (c .before .before .before .number-word2 .ensures .0) ∙ c .before .reason2 .given .1 in
+    (rw (e1, e2), omega arith)
 
--- src/lib.rt:115:1
 returns-3 : tie.Need-returns-3
-returns-3 c = ?
+unfolding connectFrom
+returns-3 c =
+    let e1 = sym (c .before .before .before .before .before .before .before .before .number-word .ensures .0) ∙ c .before .before .before .before .before .before .seat .given .1 in
+    let e2 = sym (c .before .before .before .before .number-word2 .ensures .0) ∙ c .before .before .version .given .1 in
+    (rw (e1, e2) (c .whole .ensures .0), c .whole .ensures .1)
 
 pub connect-spec : {M : Type 1} → statement M
 connect-spec =

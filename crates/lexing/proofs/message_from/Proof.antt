@@ -1,55 +1,58 @@
+-- The words are read from left to right. Assumes nothing.
+use mathlib.Core.Path.{sym, _∙_}
+use native.Mathlib.Omega.{arith}
+use borrow.Author.Tests.{lt-ltb, le-ltb}
+use Rattle.lexing.specs.Line.{roomFrom}
 use borrow.Author.Needs.{needs}
 use Rattle.lexing.proofs.message_from.Statement.{statement}
 use Rattle.lexing.proofs.message_from.Tie as tie
-use Rattle.lexing.proofs.message_from.Reads as reads
-use Rattle.lexing.proofs.message_from.Lts as lts
-use Rattle.lexing.proofs.hex_word.Reads as hex-word-reads
-use Rattle.lexing.proofs.number_word.Reads as number-word-reads
-use Rattle.lexing.proofs.whole.Reads as whole-reads
 
--- src/lib.rt:156:11
 number-word-requires : tie.Need-number-word-requires
 number-word-requires c κs = search needs
 
--- src/lib.rt:157:23
 enum-known-reason : tie.Need-enum-known-reason
 enum-known-reason c = search needs
 
--- src/lib.rt:158:20
 enum-known-room : tie.Need-enum-known-room
 enum-known-room c = search needs
 
--- src/lib.rt:160:17
 returns : tie.Need-returns
-returns c = ?
+unfolding roomFrom
+returns c =
+    let e1 = sym (c .before .before .before .before .number-word .ensures .0) ∙ c .before .before .room .given .1 in
+    (rw (e1, lt-ltb 20000 _ (c .if1 .taken)), omega arith)
 
--- src/lib.rt:162:19
 hex-word-requires : tie.Need-hex-word-requires
-hex-word-requires c κs = ?
+hex-word-requires c κs = rw (c .before .before .room .given .1) at (c .before .before .before .before .number-word .ensures .1)
 
--- src/lib.rt:163:28
 enum-known-reason-2 : tie.Need-enum-known-reason-2
 enum-known-reason-2 c = search needs
 
--- src/lib.rt:164:25
 enum-known-first : tie.Need-enum-known-first
 enum-known-first c = search needs
 
--- src/lib.rt:164:46
 whole-requires : tie.Need-whole-requires
-whole-requires c κs = ?
+whole-requires c κs = let h = rw (c .before .first .given .1) at (c .before .before .before .hex-word .ensures .1) in (h .2, (omega arith, h .0, omega arith, h .3))
 
--- src/lib.rt:152:1
 returns-2 : tie.Need-returns-2
-returns-2 c = ?
+unfolding roomFrom
+returns-2 c =
+    let e1 = sym (c .before .before .before .number-word .ensures .0) ∙ c .before .reason .given .1 in
+    (rw e1, omega arith)
 
--- src/lib.rt:152:1
 returns-3 : tie.Need-returns-3
-returns-3 c = ?
+unfolding roomFrom
+returns-3 c =
+    let e1 = sym (c .before .before .before .before .before .before .before .before .number-word .ensures .0) ∙ c .before .before .before .before .before .before .room .given .1 in
+    let e2 = sym (c .before .before .before .hex-word .ensures .0) ∙ c .before .reason2 .given .1 in
+    (rw (e1, le-ltb 20000 _ (c .before .before .before .before .if1 .left), e2), omega arith)
 
--- src/lib.rt:152:1
 returns-4 : tie.Need-returns-4
-returns-4 c = ?
+unfolding roomFrom
+returns-4 c =
+    let e1 = sym (c .before .before .before .before .before .before .before .before .before .number-word .ensures .0) ∙ c .before .before .before .before .before .before .before .room .given .1 in
+    let e2 = sym (c .before .before .before .before .hex-word .ensures .0) ∙ c .before .before .first .given .1 in
+    (rw (e1, le-ltb 20000 _ (c .before .before .before .before .before .if1 .left), e2) (c .whole .ensures .0), c .whole .ensures .1)
 
 pub message-from-spec : {M : Type 1} → statement M
 message-from-spec =

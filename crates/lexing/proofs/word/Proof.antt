@@ -1,54 +1,58 @@
+-- The words are read from left to right. Assumes nothing.
+use mathlib.Core.Path.{sym, _∙_}
+use native.Mathlib.Omega.{arith}
+use borrow.Author.Tests.{lt-ltb, le-ltb}
+use Rattle.lexing.specs.Line.{wordFrom}
 use borrow.Author.Needs.{needs}
 use Rattle.lexing.proofs.word.Statement.{statement}
 use Rattle.lexing.proofs.word.Tie as tie
-use Rattle.lexing.proofs.word.Reads as reads
-use Rattle.lexing.proofs.word.Lts as lts
-use Rattle.lexing.proofs.number_word.Reads as number-word-reads
-use Rattle.lexing.proofs.whole.Reads as whole-reads
 
--- src/lib.rt:174:11
 number-word-requires : tie.Need-number-word-requires
 number-word-requires c κs = search needs
 
--- src/lib.rt:175:23
 enum-known-reason : tie.Need-enum-known-reason
 enum-known-reason c = search needs
 
--- src/lib.rt:176:20
 enum-known-index : tie.Need-enum-known-index
 enum-known-index c = search needs
 
--- src/lib.rt:178:17
 returns : tie.Need-returns
-returns c = ?
+unfolding wordFrom
+returns c =
+    let e1 = sym (c .before .before .before .before .number-word .ensures .0) ∙ c .before .before .index .given .1 in
+    (rw (e1, lt-ltb 17199 _ (c .if1 .taken)), omega arith)
 
--- src/lib.rt:180:19
 number-word-requires-2 : tie.Need-number-word-requires-2
-number-word-requires-2 c κs = ?
+number-word-requires-2 c κs = rw (c .before .before .index .given .1) at (c .before .before .before .before .number-word .ensures .1)
 
--- src/lib.rt:181:31
 enum-known-reason-2 : tie.Need-enum-known-reason-2
 enum-known-reason-2 c = search needs
 
--- src/lib.rt:182:28
 enum-known-value : tie.Need-enum-known-value
 enum-known-value c = search needs
 
--- src/lib.rt:182:43
 whole-requires : tie.Need-whole-requires
-whole-requires c κs = ?
+whole-requires c κs = (rw (c .before .value .given .1) at (c .before .before .before .number-word2 .ensures .1), omega arith)
 
--- src/lib.rt:170:1
 returns-2 : tie.Need-returns-2
-returns-2 c = ?
+unfolding wordFrom
+returns-2 c =
+    let e1 = sym (c .before .before .before .number-word .ensures .0) ∙ c .before .reason .given .1 in
+    (rw e1, omega arith)
 
--- src/lib.rt:170:1
 returns-3 : tie.Need-returns-3
-returns-3 c = ?
+unfolding wordFrom
+returns-3 c =
+    let e1 = sym (c .before .before .before .before .before .before .before .before .number-word .ensures .0) ∙ c .before .before .before .before .before .before .index .given .1 in
+    let e2 = sym (c .before .before .before .number-word2 .ensures .0) ∙ c .before .reason2 .given .1 in
+    (rw (e1, le-ltb 17199 _ (c .before .before .before .before .if1 .left), e2), omega arith)
 
--- src/lib.rt:170:1
 returns-4 : tie.Need-returns-4
-returns-4 c = ?
+unfolding wordFrom
+returns-4 c =
+    let e1 = sym (c .before .before .before .before .before .before .before .before .before .number-word .ensures .0) ∙ c .before .before .before .before .before .before .before .index .given .1 in
+    let e2 = sym (c .before .before .before .before .number-word2 .ensures .0) ∙ c .before .before .value .given .1 in
+    (rw (e1, le-ltb 17199 _ (c .before .before .before .before .before .if1 .left), e2) (c .whole .ensures .0), c .whole .ensures .1)
 
 pub word-spec : {M : Type 1} → statement M
 word-spec =

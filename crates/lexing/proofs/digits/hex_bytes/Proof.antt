@@ -6,7 +6,7 @@ use mathlib.Core.Path.{_≡_, refl, sym, ap, _∙_}
 use mathlib.Core.List.{_++_}
 use Prim.Native.Nat.{_+_, _-_, _/_, _≤_}
 use native.Mathlib.Omega.{arith}
-use lib.ListN.{length, take, drop, length-set}
+use lib.ListN.{length, getD, take, drop, length-set}
 use lib.Seq.{take-all}
 use Rattle.lexing.specs.Digits.{hexBytes}
 use Rattle.lexing.proofs.DigitLaws.{hex-count, hex-at, laid-more}
@@ -48,13 +48,21 @@ loop-less : tie.Need-loop-less Inv-loop μ-loop
 loop-less c = search needs
 
 loop-again : tie.Need-loop-again Inv-loop μ-loop
-loop-again c = ?
+loop-again c =
+    let l = c .before .before .before .before .loop in
+    let g = c .before .before .before .before .before .before .before .args in
+    let v : c .pair .result ≡ getD (hexBytes (g .s .now)) (l .i) 0 = c .pair .ensures ∙ sym (hex-at (g .s .now) (l .i) (omega arith)) in
+    (omega arith, simp length-set (l .inv .1), rw (l .inv .2, v) (laid-more (hexBytes (g .s .now)) (g .out .now) (l .i) (omega (arith, hex-count (g .s .now))) (omega arith)))
 
 same-length : tie.Need-same-length Inv-loop μ-loop
-same-length c = ?
+same-length c = c .before .loop .inv .1
 
 returns : tie.Need-returns Inv-loop μ-loop
-returns c = ?
+returns c =
+    let l = c .before .loop in
+    let g = c .before .before .before .before .args in
+    let all : l .i ≡ length (g .s .now) / 2 = omega arith in
+    l .inv .2 ∙ rw (all, take-all (length (g .s .now) / 2) (hexBytes (g .s .now)) (omega (arith, hex-count (g .s .now))))
 
 pub hex-bytes-spec : {M : Type 1} → statement M
 hex-bytes-spec =
