@@ -1,4 +1,8 @@
-// One call of a calls file: the server's answer as a line of text.
+// One call of a calls file: it is served, and the answer is laid in the output.
+ghost use Prim.Native.Nat.{_+_, _*_, _≤_};
+ghost use lib.ListN.{length};
+ghost use Rattle.lexing.specs.Line.{Fits};
+ghost use Rattle.calls.specs.Room.{plain, answerMost, Leaves, Sized};
 use lexing::Call;
 use lexing::Reason;
 use wording::put;
@@ -11,7 +15,10 @@ pub struct Left {
     pub used: usize,
 }
 
-fn reason_text(out: &mut [u8; 131072], at: usize, reason: Reason) -> usize {
+fn put_reason(out: &mut [u8], at: usize, reason: Reason) -> usize
+    requires { ⌜ at + 12 ≤ length (now out) ⌝ }
+    ensures { λ r. ⌜ r ≤ at + 12 ⌝ }
+{
     match reason {
         Reason::UnknownCall => put(out, at, b"unknown call"),
         Reason::MissingWord => put(out, at, b"missing word"),
@@ -24,23 +31,32 @@ fn reason_text(out: &mut [u8; 131072], at: usize, reason: Reason) -> usize {
 }
 
 // `error LINE` and the reason.
-fn put_error(out: &mut [u8; 131072], used: usize, line: u64, reason: Reason) -> usize {
+fn put_error(out: &mut [u8], used: usize, line: u64, reason: Reason) -> usize
+    requires { ⌜ used + plain ≤ length (now out) ⌝ }
+    ensures { λ r. ⌜ r ≤ used + plain ⌝ }
+{
     let number = put(out, used, b"error ");
     let space = put_decimal(out, number, line);
     let text = put(out, space, b" ");
-    let end = reason_text(out, text, reason);
+    let end = put_reason(out, text, reason);
     put(out, end, b"\n")
 }
 
 // `connect REFUSAL`
-fn put_connect(out: &mut [u8; 131072], used: usize, refusal: u32) -> usize {
+fn put_connect(out: &mut [u8], used: usize, refusal: u32) -> usize
+    requires { ⌜ used + plain ≤ length (now out) ⌝ }
+    ensures { λ r. ⌜ r ≤ used + plain ⌝ }
+{
     let number = put(out, used, b"connect ");
     let end = put_decimal(out, number, refusal as u64);
     put(out, end, b"\n")
 }
 
 // `open REFUSAL HANDLE`
-fn put_open(out: &mut [u8; 131072], used: usize, refusal: u32, handle: u32) -> usize {
+fn put_open(out: &mut [u8], used: usize, refusal: u32, handle: u32) -> usize
+    requires { ⌜ used + plain ≤ length (now out) ⌝ }
+    ensures { λ r. ⌜ r ≤ used + plain ⌝ }
+{
     let number = put(out, used, b"open ");
     let space = put_decimal(out, number, refusal as u64);
     let second = put(out, space, b" ");
@@ -48,45 +64,78 @@ fn put_open(out: &mut [u8; 131072], used: usize, refusal: u32, handle: u32) -> u
     put(out, end, b"\n")
 }
 
-// `message REFUSAL COUNT HEX`, and ` spilled` where a byte past the count changed.
-fn put_message(out: &mut [u8; 131072], used: usize, refusal: u32, reply: &[u8], count: usize) -> usize {
+// ` spilled` where a byte past the count changed, and the line's end.
+fn put_end(out: &mut [u8], at: usize, reply: &[u8], count: usize) -> usize
+    requires { ⌜ at + 9 ≤ length (now out) ⌝ }
+    ensures { λ r. ⌜ r ≤ at + 9 ⌝ }
+{
+    if wording::spilled(reply, count) {
+        return put(out, at, b" spilled\n");
+    }
+    put(out, at, b"\n")
+}
+
+// `message REFUSAL COUNT HEX`
+fn put_message(out: &mut [u8], used: usize, refusal: u32, reply: &[u8], count: usize) -> usize
+    requires { ⌜ (used + 2 * length (now reply) + plain ≤ length (now out)) × (count ≤ length (now reply)) ⌝ }
+    ensures { λ r. ⌜ r ≤ used + 2 * length (now (reply .entry)) + plain ⌝ }
+{
     let number = put(out, used, b"message ");
     let space = put_decimal(out, number, refusal as u64);
     let second = put(out, space, b" ");
     let gap = put_decimal(out, second, count as u64);
     let hex = put(out, gap, b" ");
-    let mut end = put_hex(out, hex, &reply[0..count]);
-    if wording::spilled(reply, count) {
-        end = put(out, end, b" spilled");
-    }
-    put(out, end, b"\n")
+    let end = put_hex(out, hex, &reply[0..count]);
+    put_end(out, end, reply, count)
 }
 
-fn least(a: usize, b: usize) -> usize {
+fn least(a: usize, b: usize) -> usize
+    ensures { λ r. ⌜ (r ≤ a) × (r ≤ b) ⌝ }
+{
     if a < b {
         return a;
     }
     b
 }
 
-// Serves a message: its reply buffer has the first bytes of `space`.
+// Serves a message, with a reply buffer that is filled first.
 fn message(
-    table: &mut [u32; 17200],
+    table: &mut [u32],
     catalogue: &[u8],
     seat: u32,
-    room: usize,
     bytes: &[u8],
-    space: &mut [u8; 20000],
-    out: &mut [u8; 131072],
+    reply: &mut [u8],
+    out: &mut [u8],
     used: usize,
-) -> usize {
-    let reply = &mut space[0..room];
+) -> usize
+    requires { ⌜ used + 2 * length (now reply) + plain ≤ length (now out) ⌝ }
+    ensures { λ r. ⌜ r ≤ used + 2 * length (now (reply .entry)) + plain ⌝ }
+{
     wording::fill(reply);
     let answered = server::message(table, catalogue, server::Seat(seat), bytes, reply);
     let refusal = answered.refusal;
-    let told = answered.count as usize;
-    let count = least(told, room);
-    put_message(out, used, refusal, &space[0..room], count)
+    let told = answered.count;
+    let count = least(told as usize, reply.len());
+    put_message(out, used, refusal, reply, count)
+}
+
+// Serves an opening.
+fn open(
+    table: &mut [u32],
+    catalogue: &[u8],
+    seat: u32,
+    tree: &[u8],
+    out: &mut [u8],
+    used: usize,
+) -> usize
+    requires { ⌜ used + plain ≤ length (now out) ⌝ }
+    ensures { λ r. ⌜ r ≤ used + plain ⌝ }
+{
+    let opened = server::open(table, catalogue, server::Seat(seat), tree);
+    let refusal = opened.refusal;
+    let handle = opened.handle;
+    let number = handle.0;
+    put_open(out, used, refusal, number)
 }
 
 // Serves the call that the line is.
@@ -94,14 +143,17 @@ pub fn serve(
     call: Call,
     line: &[u8],
     number: u64,
-    table: &mut [u32; 17200],
-    catalogue: &mut [u8; 32768],
+    table: &mut [u32],
+    catalogue: &mut [u8],
     lent: usize,
-    bytes: &mut [u8; 20000],
-    space: &mut [u8; 20000],
-    out: &mut [u8; 131072],
+    bytes: &mut [u8],
+    space: &mut [u8],
+    out: &mut [u8],
     used: usize,
-) -> Left {
+) -> Left
+    requires { ⌜ Fits (length (now line)) call × (lent ≤ 32768) × (used + answerMost ≤ length (now out)) × Sized (length (now table)) (length (now catalogue)) (length (now bytes)) (length (now space)) (length (now out)) ⌝ }
+    ensures { λ r. ⌜ Leaves used r ⌝ }
+{
     match call {
         Call::Nothing => Left {
             catalogue: lent,
@@ -131,11 +183,8 @@ pub fn serve(
         }
         Call::Open(seat, first, last) => {
             lexing::hex_bytes(&line[first..last], bytes);
-            let count = (last - first) / 2;
-            let opened = server::open(table, &catalogue[0..lent], server::Seat(seat), &bytes[0..count]);
-            let refusal = opened.refusal;
-            let handle = opened.handle;
-            let end = put_open(out, used, refusal, handle.0);
+            let size = (last - first) / 2;
+            let end = open(table, &catalogue[0..lent], seat, &bytes[0..size], out, used);
             Left {
                 catalogue: lent,
                 used: end,
@@ -143,14 +192,14 @@ pub fn serve(
         }
         Call::Message(seat, room, first, last) => {
             lexing::hex_bytes(&line[first..last], bytes);
-            let count = (last - first) / 2;
+            let size = (last - first) / 2;
+            let width = room as usize;
             let end = message(
                 table,
                 &catalogue[0..lent],
                 seat,
-                room as usize,
-                &bytes[0..count],
-                space,
+                &bytes[0..size],
+                &mut space[0..width],
                 out,
                 used,
             );
@@ -160,7 +209,8 @@ pub fn serve(
             }
         }
         Call::Word(index, value) => {
-            table[index as usize] = value;
+            let at = index as usize;
+            table[at] = value;
             Left {
                 catalogue: lent,
                 used,

@@ -1,6 +1,9 @@
 // Reading a file of calls in chunks, and writing the answers by the buffer.
+ghost use Prim.Native.Nat.{_+_, _≤_};
+ghost use lib.ListN.{length};
+ghost use Rattle.lexing.specs.Line.{Fits};
+ghost use Rattle.calls.specs.Room.{outFull, answerMost, Sized, Stands};
 use crate::answers;
-use crate::answers::Left;
 use lexing::Call;
 use lexing::Reason;
 
@@ -14,19 +17,20 @@ struct Place {
     used: usize,
 }
 
-const LINE_MOST: usize = 1048576;
-
 const FULL: usize = 65536;
 
 // Keeps the bytes of a part of a line, as far as there is room.
-fn keep(line: &mut [u8; 1048576], place: Place, part: &[u8]) -> Place {
+fn keep(line: &mut [u8], place: Place, part: &[u8]) -> Place
+    requires { ⌜ Stands (length (now line)) place ⌝ }
+    ensures { λ r. ⌜ Stands (length (now (line .entry))) r ⌝ }
+{
     let kept = place.kept;
-    let room = LINE_MOST - kept;
+    let room = line.len() - kept;
     if room < part.len() {
         spans::lay_bytes(line, kept, &part[0..room]);
         return Place {
             number: place.number,
-            kept: LINE_MOST,
+            kept: kept + room,
             cut: true,
             catalogue: place.catalogue,
             used: place.used,
@@ -43,19 +47,24 @@ fn keep(line: &mut [u8; 1048576], place: Place, part: &[u8]) -> Place {
 }
 
 // The call that the kept bytes are. A line that was cut is too long, unless the cut is in its comment.
-fn call_of(line: &[u8], cut: bool) -> Call {
+fn call_of(line: &[u8], cut: bool) -> Call
+    ensures { λ r. ⌜ Fits (length (now (line .entry))) r ⌝ }
+{
     let end = lexing::before_comment(line);
     if end < line.len() {
-        return lexing::call(&line[0..end]);
+        return lexing::read(&line[0..end]);
     }
     if cut {
         return Call::Fault(Reason::TooLong);
     }
-    lexing::call(line)
+    lexing::read(line)
 }
 
-// Writes the waiting output where it is much. Answers how much waits then.
-fn written(out: &[u8; 131072], used: usize, most: usize) -> usize {
+// Writes the waiting output where it is more than so much. Answers how much waits then.
+fn written(out: &[u8], used: usize, most: usize) -> usize
+    requires { ⌜ used ≤ length (now out) ⌝ }
+    ensures { λ r. ⌜ r ≤ most ⌝ }
+{
     if used <= most {
         return used;
     }
@@ -65,20 +74,24 @@ fn written(out: &[u8; 131072], used: usize, most: usize) -> usize {
 
 // Serves the line whose bytes are kept, and goes on to the next.
 fn serve(
-    line: &[u8; 1048576],
+    line: &[u8],
     place: Place,
-    table: &mut [u32; 17200],
-    catalogue: &mut [u8; 32768],
-    bytes: &mut [u8; 20000],
-    space: &mut [u8; 20000],
-    out: &mut [u8; 131072],
-) -> Place {
+    table: &mut [u32],
+    catalogue: &mut [u8],
+    bytes: &mut [u8],
+    space: &mut [u8],
+    out: &mut [u8],
+) -> Place
+    requires { ⌜ Stands (length (now line)) place × Sized (length (now table)) (length (now catalogue)) (length (now bytes)) (length (now space)) (length (now out)) ⌝ }
+    ensures { λ r. ⌜ Stands (length (now (line .entry))) r ⌝ }
+{
     let kept = place.kept;
     let number = place.number;
-    let call = call_of(&line[0..kept], place.cut);
+    let text = &line[0..kept];
+    let call = call_of(text, place.cut);
     let left = answers::serve(
         call,
-        &line[0..kept],
+        text,
         number,
         table,
         catalogue,
@@ -88,12 +101,13 @@ fn serve(
         out,
         place.used,
     );
+    let lent = left.catalogue;
     let used = written(out, left.used, FULL);
     Place {
         number: std::num::wrapping_add_u64(number, 1),
         kept: 0,
         cut: false,
-        catalogue: left.catalogue,
+        catalogue: lent,
         used,
     }
 }
@@ -102,28 +116,35 @@ fn serve(
 fn serve_chunk(
     chunk: &[u8],
     place: Place,
-    line: &mut [u8; 1048576],
-    table: &mut [u32; 17200],
-    catalogue: &mut [u8; 32768],
-    bytes: &mut [u8; 20000],
-    space: &mut [u8; 20000],
-    out: &mut [u8; 131072],
-) -> Place {
-    let mut now = place;
+    line: &mut [u8],
+    table: &mut [u32],
+    catalogue: &mut [u8],
+    bytes: &mut [u8],
+    space: &mut [u8],
+    out: &mut [u8],
+) -> Place
+    requires { ⌜ Stands (length (now line)) place × Sized (length (now table)) (length (now catalogue)) (length (now bytes)) (length (now space)) (length (now out)) ⌝ }
+    ensures { λ r. ⌜ Stands (length (now (line .entry))) r ⌝ }
+{
+    let mut here = place;
     let mut at = 0;
     while at < chunk.len() {
         let end = lexing::before_feed(chunk, at);
-        now = keep(line, now, &chunk[at..end]);
+        here = keep(line, here, &chunk[at..end]);
         if end < chunk.len() {
-            now = serve(line, now, table, catalogue, bytes, space, out);
+            here = serve(line, here, table, catalogue, bytes, space, out);
+            at = end + 1;
+        } else {
+            at = end;
         }
-        at = end + 1;
     }
-    now
+    here
 }
 
 // Reads once. Answers how many bytes came: none at the end, or where the read fails, which is then said.
-fn read_some(fd: i32, path: &[u8], chunk: &mut [u8; 65536]) -> usize {
+fn read_some(fd: i32, path: &[u8], chunk: &mut [u8]) -> usize
+    ensures { λ r. ⌜ r ≤ length (now (chunk .entry)) ⌝ }
+{
     let got = libc::read(fd, chunk);
     if got < 0 {
         os::fail(path);
@@ -132,15 +153,21 @@ fn read_some(fd: i32, path: &[u8], chunk: &mut [u8; 65536]) -> usize {
     io::count(got, chunk)
 }
 
-// Serves all calls of an open file.
-pub fn replay(fd: i32, path: &[u8]) {
-    let mut table = [0u32; 17200];
-    let mut catalogue = [0u8; 32768];
-    let mut bytes = [0u8; 20000];
-    let mut space = [0u8; 20000];
-    let mut line = [0u8; 1048576];
-    let mut out = [0u8; 131072];
-    let mut chunk = [0u8; 65536];
+// Serves all lines of an open file. A proved loop has to end, and nothing says that a file does: so the loop counts its turns
+// down, from a number that no run uses up.
+fn serve_file(
+    fd: i32,
+    path: &[u8],
+    chunk: &mut [u8],
+    line: &mut [u8],
+    table: &mut [u32],
+    catalogue: &mut [u8],
+    bytes: &mut [u8],
+    space: &mut [u8],
+    out: &mut [u8],
+)
+    requires { ⌜ Sized (length (now table)) (length (now catalogue)) (length (now bytes)) (length (now space)) (length (now out)) ⌝ }
+{
     let mut place = Place {
         number: 1,
         kept: 0,
@@ -150,32 +177,46 @@ pub fn replay(fd: i32, path: &[u8]) {
     };
     let mut turns = u64::MAX;
     while turns > 0 {
-        let count = read_some(fd, path, &mut chunk);
+        let count = read_some(fd, path, chunk);
         if count == 0 {
             break;
         }
         place = serve_chunk(
             &chunk[0..count],
             place,
-            &mut line,
-            &mut table,
-            &mut catalogue,
-            &mut bytes,
-            &mut space,
-            &mut out,
+            line,
+            table,
+            catalogue,
+            bytes,
+            space,
+            out,
         );
         turns -= 1;
     }
     if 0 < place.kept {
-        place = serve(
-            &line,
-            place,
-            &mut table,
-            &mut catalogue,
-            &mut bytes,
-            &mut space,
-            &mut out,
-        );
+        place = serve(line, place, table, catalogue, bytes, space, out);
     }
-    written(&out, place.used, 0);
+    written(out, place.used, 0);
+}
+
+// Serves the recorded calls of an open file, and writes the answers to standard output.
+pub fn replay(fd: i32, path: &[u8]) {
+    let mut table = [0u32; 17200];
+    let mut catalogue = [0u8; 32768];
+    let mut bytes = [0u8; 20000];
+    let mut space = [0u8; 20000];
+    let mut line = [0u8; 1048576];
+    let mut out = [0u8; 131072];
+    let mut chunk = [0u8; 65536];
+    serve_file(
+        fd,
+        path,
+        &mut chunk,
+        &mut line,
+        &mut table,
+        &mut catalogue,
+        &mut bytes,
+        &mut space,
+        &mut out,
+    );
 }

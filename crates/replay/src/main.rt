@@ -1,7 +1,10 @@
 // replay CALLS-FILE: serves the recorded calls of a file, and writes the answers to standard output.
 
 fn usage() {
-    io::write_all(2, b"usage: replay CALLS-FILE    a line is one of: catalogue HEX | connect SEAT VERSION | open SEAT HEX | message SEAT ROOM HEX | word INDEX VALUE (# starts a comment, - is empty HEX)\n");
+    io::write_all(
+        2,
+        b"usage: replay CALLS-FILE    a line is one of: catalogue HEX | connect SEAT VERSION | open SEAT HEX | message SEAT ROOM HEX | word INDEX VALUE (# starts a comment, - is empty HEX)\n",
+    );
 }
 
 fn main() {

@@ -52,9 +52,11 @@ returns-2 c =
     let end = w .after-word .result in
     let p = w .before .after-separators .ensures in
     let q = w .after-word .ensures in
-    let d = c .before .before .decimal in
-    (sym (number-found s (a .args .at) start end (p .0) (q .0) (c .before .before .before .before .if1 .left)
-        ∙ told-bad (decimal (between start end s)) end (sym (d .ensures) ∙ c .enum-told .given .1)), omega arith)
+    let d = c .before .before .decimal in (
+      sym (number-found s (a .args .at) start end (p .0) (q .0) (c .before .before .before .before .if1 .left)
+          ∙ told-bad (decimal (between start end s)) end (sym (d .ensures) ∙ c .enum-told .given .1)),
+      omega arith,
+    )
 
 returns-3 : tie.Need-returns-3
 returns-3 c =
@@ -65,9 +67,11 @@ returns-3 c =
     let end = w .after-word .result in
     let p = w .before .after-separators .ensures in
     let q = w .after-word .ensures in
-    let d = c .before .before .before .decimal in
-    (sym (number-found s (a .args .at) start end (p .0) (q .0) (c .before .before .before .before .before .if1 .left)
-        ∙ told-is (decimal (between start end s)) end _ (sym (d .ensures) ∙ c .before .value .given .1)), q .2)
+    let d = c .before .before .before .decimal in (
+      sym (number-found s (a .args .at) start end (p .0) (q .0) (c .before .before .before .before .before .if1 .left)
+          ∙ told-is (decimal (between start end s)) end _ (sym (d .ensures) ∙ c .before .value .given .1)),
+      q .2,
+    )
 
 pub number-word-spec : {M : Type 1} → statement M
 number-word-spec =

@@ -1,41 +1,49 @@
+-- After i turns the first i bytes are filled. Assumes nothing.
+use mathlib.Core.Path.{_≡_, refl, _∙_}
+use mathlib.Core.List.{_++_, append-nil}
+use Prim.Native.Nat.{_≤_, _-_}
+use native.Mathlib.Omega.{arith}
+use lib.ListN.{length, drop, replicate, length-set}
+use lib.Seq.{drop-length}
+use borrow.Author.Fill.{fill-more}
+use Rattle.wording.specs.Text.{fillByte}
+use borrow.Author.Needs.{needs}
 use Rattle.wording.proofs.fill.Statement.{statement}
 use Rattle.wording.proofs.fill.Tie as tie
-use Rattle.wording.proofs.fill.Reads as reads
-use Rattle.wording.proofs.fill.Lts as lts
 
 abbrev Inv-loop : tie.InvT-loop
-Inv-loop reply₀ i₀ reply i = ?
+Inv-loop reply₀ i₀ reply i = (i ≤ length reply₀) × (length reply ≡ length reply₀) × (reply ≡ replicate i fillByte ++ drop i reply₀)
 
 abbrev μ-loop : tie.MeasureT-loop
-μ-loop reply₀ i₀ reply i = ?
+μ-loop reply₀ i₀ reply i = length reply₀ - i
 
--- src/lib.rt:51:5
 loop-holds : tie.Need-loop-holds Inv-loop μ-loop
-loop-holds c = ?
+loop-holds c = (omega arith, refl, refl)
 
--- src/lib.rt:52:9
 slice-write-reply : tie.Need-slice-write-reply Inv-loop μ-loop
-slice-write-reply c = ?
+slice-write-reply c = search needs
 
--- src/lib.rt:53:9
 add-i : tie.Need-add-i Inv-loop μ-loop
-add-i c = ?
+add-i c = search needs
 
--- src/lib.rt:51:5
 loop-less : tie.Need-loop-less Inv-loop μ-loop
-loop-less c = ?
+loop-less c = omega (arith, c .before .loop .inv .1)
 
--- src/lib.rt:51:5
 loop-again : tie.Need-loop-again Inv-loop μ-loop
-loop-again c = ?
+loop-again c =
+    let l = c .before .loop in
+    let d = c .before .before .args .reply .now in
+    (omega arith, simp length-set (l .inv .1), rw (l .inv .2) (fill-more (l .i) 170 d (omega arith)))
 
--- src/lib.rt:49:1
 same-length : tie.Need-same-length Inv-loop μ-loop
-same-length c = ?
+same-length c = c .before .loop .inv .1
 
--- src/lib.rt:49:1
 returns : tie.Need-returns Inv-loop μ-loop
-returns c = ?
+returns c =
+    let l = c .before .loop in
+    let d = c .before .before .args .reply .now in
+    let all : l .i ≡ length d = omega arith in
+    l .inv .2 ∙ rw (all, drop-length d) (append-nil (replicate (length d) 170))
 
 pub fill-spec : {M : Type 1} → statement M
 fill-spec =

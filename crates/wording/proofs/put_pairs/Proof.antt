@@ -1,78 +1,83 @@
+-- After i turns the digits of the first i bytes are laid. Assumes nothing.
+use mathlib.Core.Path.{_≡_, refl, sym, _∙_}
+use Prim.Native.Nat.{_+_, _*_, _≤_, _-_}
+use native.Mathlib.Omega.{arith}
+use lib.ListN.{length, getD, length-set}
+use lib.Seq.{paste, paste-zero}
+use Rattle.spans.proofs.Lay.{copied}
+use Rattle.wording.specs.Text.{hexPairs}
+use Rattle.wording.proofs.TextLaws.{pairs-length, pair-high, pair-low, pasted-two}
+use borrow.Author.Needs.{needs}
 use Rattle.wording.proofs.put_pairs.Statement.{statement}
 use Rattle.wording.proofs.put_pairs.Tie as tie
-use Rattle.wording.proofs.put_pairs.Reads as reads
-use Rattle.wording.proofs.put_pairs.Lts as lts
-use Rattle.wording.proofs.digit.Reads as digit-reads
 
 abbrev Inv-loop : tie.InvT-loop
-Inv-loop out₀ at bytes i₀ out i = ?
+Inv-loop out₀ at bytes i₀ out i = (i ≤ length bytes) × (length out ≡ length out₀) × (out ≡ paste out₀ at (hexPairs bytes) (2 * i))
 
 abbrev μ-loop : tie.MeasureT-loop
-μ-loop out₀ at bytes i₀ out i = ?
+μ-loop out₀ at bytes i₀ out i = length bytes - i
 
--- src/lib.rt:28:5
 loop-holds : tie.Need-loop-holds Inv-loop μ-loop
-loop-holds c = ?
+loop-holds c = let a = c .before .before .args in (omega arith, refl, paste-zero (a .out .now) (a .at) (hexPairs (a .bytes .now)))
 
--- src/lib.rt:29:17
 shared-slice-read-b : tie.Need-shared-slice-read-b Inv-loop μ-loop
-shared-slice-read-b c = ?
+shared-slice-read-b c = search needs
 
--- src/lib.rt:30:23
 mul-to : tie.Need-mul-to Inv-loop μ-loop
-mul-to c = ?
+mul-to c = search needs
 
--- src/lib.rt:30:18
 add-to : tie.Need-add-to Inv-loop μ-loop
-add-to c = ?
+add-to c = search needs
 
--- src/lib.rt:31:19
 digit-requires : tie.Need-digit-requires Inv-loop μ-loop
-digit-requires c κs = ?
+digit-requires c κs = omega (arith, c .shared-slice-known2 .given (c .before .before .loop .i))
 
--- src/lib.rt:31:9
 slice-write-out : tie.Need-slice-write-out Inv-loop μ-loop
-slice-write-out c = ?
+slice-write-out c = search needs
 
--- src/lib.rt:32:23
 digit-requires-2 : tie.Need-digit-requires-2 Inv-loop μ-loop
-digit-requires-2 c κs = ?
+digit-requires-2 c κs = search needs
 
--- src/lib.rt:32:13
 add-out : tie.Need-add-out Inv-loop μ-loop
-add-out c = ?
+add-out c = search needs
 
--- src/lib.rt:32:9
 slice-write-out-2 : tie.Need-slice-write-out-2 Inv-loop μ-loop
-slice-write-out-2 c = ?
+slice-write-out-2 c = simp length-set (omega arith)
 
--- src/lib.rt:33:9
 add-i : tie.Need-add-i Inv-loop μ-loop
-add-i c = ?
+add-i c = search needs
 
--- src/lib.rt:28:5
 loop-less : tie.Need-loop-less Inv-loop μ-loop
-loop-less c = ?
+loop-less c = search needs
 
--- src/lib.rt:28:5
 loop-again : tie.Need-loop-again Inv-loop μ-loop
-loop-again c = ?
+loop-again c =
+    let l = c .before .before .before .before .loop in
+    let a = c .before .before .before .before .before .before .before .args in
+    let h = hexPairs (a .bytes .now) in
+    let high : c .before .digit .result ≡ getD h (2 * l .i) 0 = c .before .digit .ensures ∙ sym (pair-high (a .bytes .now) (l .i) (omega arith)) in
+    let low : c .digit2 .result ≡ getD h (2 * l .i + 1) 0 = c .digit2 .ensures ∙ sym (pair-low (a .bytes .now) (l .i) (omega arith)) in
+    let next : 2 * (l .i + 1) ≡ 2 * l .i + 2 = omega arith in
+    (omega arith, simp length-set (l .inv .1), rw (l .inv .2, high, low, next) (pasted-two (a .out .now) h (a .at) (2 * l .i) (omega arith) (omega (arith, pairs-length (a .bytes .now)))))
 
--- src/lib.rt:35:10
 mul-result : tie.Need-mul-result Inv-loop μ-loop
-mul-result c = ?
+mul-result c = search needs
 
--- src/lib.rt:35:5
 add-result : tie.Need-add-result Inv-loop μ-loop
-add-result c = ?
+add-result c = search needs
 
--- src/lib.rt:26:1
 same-length : tie.Need-same-length Inv-loop μ-loop
-same-length c = ?
+same-length c = c .before .loop .inv .1
 
--- src/lib.rt:26:1
 returns : tie.Need-returns Inv-loop μ-loop
-returns c = ?
+returns c =
+    let l = c .before .loop in
+    let a = c .before .before .before .before .args in
+    let h = hexPairs (a .bytes .now) in
+    record {
+      next = omega (arith, pairs-length (a .bytes .now));
+      laid = l .inv .2 ∙ copied (a .out .now) (a .at) h (2 * l .i) (omega (arith, pairs-length (a .bytes .now)));
+    }
 
 pub put-pairs-spec : {M : Type 1} → statement M
 put-pairs-spec =

@@ -1,37 +1,48 @@
+-- What was found so far or is found in what is left is the answer. Assumes nothing.
+use mathlib.Core.Path.{_≡_, refl, sym, _∙_}
+use mathlib.Core.Logic.{⊎-elim}
+use Prim.Native.Nat.{_-_}
+use native.Mathlib.Omega.{arith}
+use lib.ListN.{length, drop}
+use Rattle.words.specs.Below.{either}
+use Rattle.wording.specs.Text.{changed}
+use Rattle.wording.proofs.TextLaws.{changed-here, changed-later, changed-never, found-now, found-only}
+use borrow.Author.Needs.{needs}
 use Rattle.wording.proofs.spilled.Statement.{statement}
 use Rattle.wording.proofs.spilled.Tie as tie
-use Rattle.wording.proofs.spilled.Reads as reads
-use Rattle.wording.proofs.spilled.Lts as lts
 
 abbrev Inv-loop : tie.InvT-loop
-Inv-loop reply count i₀ spilled₀ i spilled = ?
+Inv-loop reply count found₀ i₀ found i = either found (changed (drop i reply)) ≡ changed (drop count reply)
 
 abbrev μ-loop : tie.MeasureT-loop
-μ-loop reply count i₀ spilled₀ i spilled = ?
+μ-loop reply count found₀ i₀ found i = length reply - i
 
--- src/lib.rt:61:5
 loop-holds : tie.Need-loop-holds Inv-loop μ-loop
-loop-holds c = ?
+loop-holds c = refl
 
--- src/lib.rt:62:12
 shared-slice-read-if1 : tie.Need-shared-slice-read-if1 Inv-loop μ-loop
-shared-slice-read-if1 c = ?
+shared-slice-read-if1 c = search needs
 
--- src/lib.rt:65:9
 add-i : tie.Need-add-i Inv-loop μ-loop
-add-i c = ?
+add-i c = search needs
 
--- src/lib.rt:61:5
 loop-less : tie.Need-loop-less Inv-loop μ-loop
-loop-less c = ?
+loop-less c = search needs
 
--- src/lib.rt:61:5
 loop-again : tie.Need-loop-again Inv-loop μ-loop
-loop-again c = ?
+loop-again c =
+    let l = c .before .before .before .loop in
+    let s = c .before .before .before .before .args .reply .now in
+    ⊎-elim
+    (λ w. rw (w .1) (sym (found-now (l .found) (changed (drop (l .i) s)) (changed-here s (l .i) (omega arith) (w .0 .taken))) ∙ l .inv))
+    (λ w. rw (w .1, ← changed-later s (l .i) (omega arith) (w .0 .left)) (l .inv))
+    (c .if1 .came)
 
--- src/lib.rt:58:1
 returns : tie.Need-returns Inv-loop μ-loop
-returns c = ?
+returns c =
+    let l = c .before .loop in
+    let s = c .before .before .args .reply .now in
+    sym (found-only (l .found) (changed (drop (l .i) s)) (changed-never s (l .i) (omega arith))) ∙ l .inv
 
 pub spilled-spec : {M : Type 1} → statement M
 spilled-spec =

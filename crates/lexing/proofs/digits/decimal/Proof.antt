@@ -48,7 +48,7 @@ returns-3 c =
     let l = c .before .before .before .before .before .loop in
     let s = c .before .before .before .before .before .before .args .s .now in
     sym (ap told (l .inv .2 ∙ ap within (digit-more s (l .value) (l .i) (omega arith) (omega arith) (omega arith))
-        ∙ stays-past (drop (l .i + 1) s) (l .value * 10 + (getD s (l .i) 0 - 48)) (omega arith)))
+    ∙ stays-past (drop (l .i + 1) s) (l .value * 10 + (getD s (l .i) 0 - 48)) (omega arith)))
 
 add-i : tie.Need-add-i Inv-loop μ-loop
 add-i c = search needs
