@@ -1,5 +1,6 @@
 // One call of a calls file: it is served, and the answer is laid in the output.
-ghost use Prim.Native.Nat.{_+_, _*_, _≤_};
+ghost use mathlib.Core.Path.{_≡_};
+ghost use Prim.Native.Nat.{_+_, _-_, _*_, _/_, _≤_};
 ghost use lib.ListN.{length};
 ghost use Rattle.lexing.specs.Line.{Fits};
 ghost use Rattle.calls.specs.Room.{plain, answerMost, Leaves, Sized};
@@ -75,6 +76,14 @@ fn put_end(out: &mut [u8], at: usize, reply: &[u8], count: usize) -> usize
     put(out, at, b"\n")
 }
 
+// The first bytes of a reply.
+fn put_first(out: &mut [u8], at: usize, reply: &[u8], count: usize) -> usize
+    requires { ⌜ (at + 2 * length (now reply) + 1 ≤ length (now out)) × (count ≤ length (now reply)) ⌝ }
+    ensures { λ r. ⌜ r ≤ at + 2 * length (now (reply .entry)) + 1 ⌝ }
+{
+    put_hex(out, at, &reply[0..count])
+}
+
 // `message REFUSAL COUNT HEX`
 fn put_message(out: &mut [u8], used: usize, refusal: u32, reply: &[u8], count: usize) -> usize
     requires { ⌜ (used + 2 * length (now reply) + plain ≤ length (now out)) × (count ≤ length (now reply)) ⌝ }
@@ -85,7 +94,7 @@ fn put_message(out: &mut [u8], used: usize, refusal: u32, reply: &[u8], count: u
     let second = put(out, space, b" ");
     let gap = put_decimal(out, second, count as u64);
     let hex = put(out, gap, b" ");
-    let end = put_hex(out, hex, &reply[0..count]);
+    let end = put_first(out, hex, reply, count);
     put_end(out, end, reply, count)
 }
 
@@ -138,6 +147,16 @@ fn open(
     put_open(out, used, refusal, number)
 }
 
+// The bytes that a part of the line spells. Answers how many they are.
+fn load(line: &[u8], first: usize, last: usize, into: &mut [u8]) -> usize
+    requires { ⌜ (first ≤ last) × (last ≤ length (now line)) × ((last - first) / 2 ≤ length (now into)) ⌝ }
+    ensures { λ r. ⌜ r ≡ (last - first) / 2 ⌝ }
+{
+    let digits = &line[first..last];
+    lexing::hex_bytes(digits, into);
+    digits.len() / 2
+}
+
 // Serves the call that the line is.
 pub fn serve(
     call: Call,
@@ -167,9 +186,9 @@ pub fn serve(
             }
         }
         Call::Catalogue(first, last) => {
-            lexing::hex_bytes(&line[first..last], catalogue);
+            let size = load(line, first, last, catalogue);
             Left {
-                catalogue: (last - first) / 2,
+                catalogue: size,
                 used,
             }
         }
@@ -182,8 +201,7 @@ pub fn serve(
             }
         }
         Call::Open(seat, first, last) => {
-            lexing::hex_bytes(&line[first..last], bytes);
-            let size = (last - first) / 2;
+            let size = load(line, first, last, bytes);
             let end = open(table, &catalogue[0..lent], seat, &bytes[0..size], out, used);
             Left {
                 catalogue: lent,
@@ -191,8 +209,7 @@ pub fn serve(
             }
         }
         Call::Message(seat, room, first, last) => {
-            lexing::hex_bytes(&line[first..last], bytes);
-            let size = (last - first) / 2;
+            let size = load(line, first, last, bytes);
             let width = room as usize;
             let end = message(
                 table,

@@ -141,6 +141,25 @@ fn serve_chunk(
     here
 }
 
+// Serves what stands after the last line feed, if it holds a byte.
+fn serve_last(
+    line: &[u8],
+    place: Place,
+    table: &mut [u32],
+    catalogue: &mut [u8],
+    bytes: &mut [u8],
+    space: &mut [u8],
+    out: &mut [u8],
+) -> Place
+    requires { ⌜ Stands (length (now line)) place × Sized (length (now table)) (length (now catalogue)) (length (now bytes)) (length (now space)) (length (now out)) ⌝ }
+    ensures { λ r. ⌜ Stands (length (now (line .entry))) r ⌝ }
+{
+    if place.kept == 0 {
+        return place;
+    }
+    serve(line, place, table, catalogue, bytes, space, out)
+}
+
 // Reads once. Answers how many bytes came: none at the end, or where the read fails, which is then said.
 fn read_some(fd: i32, path: &[u8], chunk: &mut [u8]) -> usize
     ensures { λ r. ⌜ r ≤ length (now (chunk .entry)) ⌝ }
@@ -193,10 +212,8 @@ fn serve_file(
         );
         turns -= 1;
     }
-    if 0 < place.kept {
-        place = serve(line, place, table, catalogue, bytes, space, out);
-    }
-    written(out, place.used, 0);
+    let last = serve_last(line, place, table, catalogue, bytes, space, out);
+    written(out, last.used, 0);
 }
 
 // Serves the recorded calls of an open file, and writes the answers to standard output.

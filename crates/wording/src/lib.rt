@@ -64,7 +64,7 @@ fn put_pairs(out: &mut [u8], at: usize, bytes: &[u8]) -> usize
 // The bytes in hex digits, or `-` for none.
 pub fn put_hex(out: &mut [u8], at: usize, bytes: &[u8]) -> usize
     requires { ⌜ at + 2 * length (now bytes) + 1 ≤ length (now out) ⌝ }
-    ensures { λ r. ⌜ Put (hexText (now (bytes .entry))) at r (now (out .entry)) (now (out .exit)) ⌝ }
+    ensures { λ r. ⌜ Put (hexText (now (bytes .entry))) at r (now (out .entry)) (now (out .exit)) × (r ≤ at + 2 * length (now (bytes .entry)) + 1) ⌝ }
 {
     if bytes.len() == 0 {
         return put(out, at, b"-");

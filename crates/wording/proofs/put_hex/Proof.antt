@@ -1,5 +1,6 @@
 -- No bytes, or some. Assumes nothing.
-use Rattle.wording.proofs.TextLaws.{text-none, text-some}
+use native.Mathlib.Omega.{arith}
+use Rattle.wording.proofs.TextLaws.{text-none, text-some, pairs-length}
 use borrow.Author.Needs.{needs}
 use Rattle.wording.proofs.put_hex.Statement.{statement}
 use Rattle.wording.proofs.put_hex.Tie as tie
@@ -16,7 +17,8 @@ same-length c = search needs
 returns : tie.Need-returns
 returns c =
     let some = c .before .before .before .before .before .before .before .before .args .bytes .now in
-    rw (text-none some (c .before .before .before .before .before .if1 .taken)) (c .before .before .put .ensures)
+    let p = c .before .before .put .ensures in
+    (rw (text-none some (c .before .before .before .before .before .if1 .taken)) p, omega (arith, p .next))
 
 put-pairs-requires : tie.Need-put-pairs-requires
 put-pairs-requires c κs = search needs
@@ -27,7 +29,8 @@ same-length-2 c = search needs
 returns-2 : tie.Need-returns-2
 returns-2 c =
     let some = c .before .before .before .before .before .before .before .args .bytes .now in
-    rw (text-some some (c .before .before .before .before .if1 .left)) (c .before .before .put-pairs .ensures)
+    let p = c .before .before .put-pairs .ensures in
+    (rw (text-some some (c .before .before .before .before .if1 .left)) p, omega (arith, p .next, pairs-length some))
 
 pub put-hex-spec : {M : Type 1} → statement M
 put-hex-spec =

@@ -1,94 +1,78 @@
+-- Between two lines the buffers have their lengths, and the place stands. Assumes nothing.
+use mathlib.Core.Path.{_≡_}
+use Prim.Native.Nat.{_≤_, _-_}
+use native.Mathlib.Omega.{arith}
+use lib.ListN.{length}
+use Rattle.calls.specs.Room.{Stands}
+use borrow.Author.Needs.{needs}
 use Rattle.calls.proofs.reading.serve_chunk.Statement.{statement}
 use Rattle.calls.proofs.reading.serve_chunk.Tie as tie
-use Rattle.calls.proofs.reading.serve_chunk.Reads as reads
-use Rattle.calls.proofs.reading.serve_chunk.Lts as lts
-use Rattle.calls.proofs.reading.keep.Reads as keep-reads
-use Rattle.calls.proofs.reading.serve.Reads as serve-reads
-use Rattle.lexing.proofs.before_feed.Reads as before-feed-reads
 
 abbrev Inv-loop : tie.InvT-loop
 Inv-loop chunk line₀ table₀ catalogue₀ bytes₀ space₀ out₀ here₀ at₀ line table catalogue bytes space out here at =
-    ?
+    (at ≤ length chunk) × Stands (length line) here × (length line ≡ length line₀) × (length table ≡ length table₀) × (length catalogue ≡ length catalogue₀)
+    × (length bytes ≡ length bytes₀) × (length space ≡ length space₀) × (length out ≡ length out₀)
 
 abbrev μ-loop : tie.MeasureT-loop
 μ-loop chunk line₀ table₀ catalogue₀ bytes₀ space₀ out₀ here₀ at₀ line table catalogue bytes space out here at =
-    ?
+    length chunk - at
 
--- src/reading.rt:131:5
 loop-holds : tie.Need-loop-holds Inv-loop μ-loop
-loop-holds c = ?
+loop-holds c = search needs
 
--- src/reading.rt:132:13
 before-feed-requires : tie.Need-before-feed-requires Inv-loop μ-loop
-before-feed-requires c κs = ?
+before-feed-requires c κs = search needs
 
--- src/reading.rt:133:33
 sub-keep : tie.Need-sub-keep Inv-loop μ-loop
-sub-keep c = ?
+sub-keep c = search needs
 
--- src/reading.rt:133:33
 part-keep-start : tie.Need-part-keep-start Inv-loop μ-loop
-part-keep-start c = ?
+part-keep-start c = search needs
 
--- src/reading.rt:133:33
 part-keep-end : tie.Need-part-keep-end Inv-loop μ-loop
-part-keep-end c = ?
+part-keep-end c = search needs
 
--- src/reading.rt:133:9
 keep-requires : tie.Need-keep-requires Inv-loop μ-loop
-keep-requires c κs = ?
+keep-requires c κs = search needs
 
--- src/reading.rt:135:13
 serve-requires : tie.Need-serve-requires Inv-loop μ-loop
-serve-requires c κs = ?
+serve-requires c κs = search needs
 
--- src/reading.rt:136:18
 add-at : tie.Need-add-at Inv-loop μ-loop
-add-at c = ?
+add-at c = omega (arith, c .before .before .before .before .before .before .before .before .before .before .before .before .before .before .before .before .before .if1 .taken, c .before .before .before .before .before .before .before .before .before .before .before .before .before .before .before .before .before .before .before .before .before .before .before .before .before .before .before .before .before .before .before .before .before .good)
 
--- src/reading.rt:131:5
 loop-less : tie.Need-loop-less Inv-loop μ-loop
-loop-less c = ?
+loop-less c = search needs
 
--- src/reading.rt:131:5
 loop-again : tie.Need-loop-again Inv-loop μ-loop
-loop-again c = ?
+loop-again c = search needs
 
--- src/reading.rt:131:5
 loop-less-2 : tie.Need-loop-less-2 Inv-loop μ-loop
-loop-less-2 c = ?
+loop-less-2 c = search needs
 
--- src/reading.rt:131:5
 loop-again-2 : tie.Need-loop-again-2 Inv-loop μ-loop
-loop-again-2 c = ?
+loop-again-2 c = search needs
 
--- src/reading.rt:116:1
 same-length : tie.Need-same-length Inv-loop μ-loop
-same-length c = ?
+same-length c = search needs
 
--- src/reading.rt:116:1
 same-length-2 : tie.Need-same-length-2 Inv-loop μ-loop
-same-length-2 c = ?
+same-length-2 c = search needs
 
--- src/reading.rt:116:1
 same-length-3 : tie.Need-same-length-3 Inv-loop μ-loop
-same-length-3 c = ?
+same-length-3 c = search needs
 
--- src/reading.rt:116:1
 same-length-4 : tie.Need-same-length-4 Inv-loop μ-loop
-same-length-4 c = ?
+same-length-4 c = search needs
 
--- src/reading.rt:116:1
 same-length-5 : tie.Need-same-length-5 Inv-loop μ-loop
-same-length-5 c = ?
+same-length-5 c = search needs
 
--- src/reading.rt:116:1
 same-length-6 : tie.Need-same-length-6 Inv-loop μ-loop
-same-length-6 c = ?
+same-length-6 c = search needs
 
--- src/reading.rt:116:1
 returns : tie.Need-returns Inv-loop μ-loop
-returns c = ?
+returns c = search needs
 
 pub serve-chunk-spec : {M : Type 1} → statement M
 serve-chunk-spec =
