@@ -1,5 +1,5 @@
 // Reading a file of calls in chunks, and writing the answers by the buffer.
-ghost use Prim.Native.Nat.{_+_, _≤_};
+ghost use Prim.Native.Nat.{_+_, _≤_, _<_};
 ghost use lib.ListN.{length};
 ghost use Rattle.lexing.specs.Line.{Fits};
 ghost use Rattle.calls.specs.Room.{outFull, answerMost, Sized, Stands};
@@ -8,13 +8,14 @@ use lexing::Call;
 use lexing::Reason;
 
 // Where the program stands: the number of the present line, how many of its bytes are kept and whether there were more, the
-// length of the lent catalogue, and how much of the output waits to be written.
+// length of the lent catalogue, how much of the output waits to be written, and whether the file has ended.
 struct Place {
     number: u64,
     kept: usize,
     cut: bool,
     catalogue: usize,
     used: usize,
+    ended: bool,
 }
 
 const FULL: usize = 65536;
@@ -34,6 +35,7 @@ fn keep(line: &mut [u8], place: Place, part: &[u8]) -> Place
             cut: true,
             catalogue: place.catalogue,
             used: place.used,
+            ended: false,
         };
     }
     spans::lay_bytes(line, kept, part);
@@ -43,6 +45,7 @@ fn keep(line: &mut [u8], place: Place, part: &[u8]) -> Place
         cut: place.cut,
         catalogue: place.catalogue,
         used: place.used,
+        ended: false,
     }
 }
 
@@ -109,6 +112,7 @@ fn serve(
         cut: false,
         catalogue: lent,
         used,
+        ended: false,
     }
 }
 
@@ -172,6 +176,56 @@ fn read_some(fd: i32, path: &[u8], chunk: &mut [u8]) -> usize
     io::count(got, chunk)
 }
 
+// Reads once and serves the lines that end there.
+fn turn(
+    fd: i32,
+    path: &[u8],
+    chunk: &mut [u8],
+    place: Place,
+    line: &mut [u8],
+    table: &mut [u32],
+    catalogue: &mut [u8],
+    bytes: &mut [u8],
+    space: &mut [u8],
+    out: &mut [u8],
+) -> Place
+    requires { ⌜ Stands (length (now line)) place × Sized (length (now table)) (length (now catalogue)) (length (now bytes)) (length (now space)) (length (now out)) ⌝ }
+    ensures { λ r. ⌜ Stands (length (now (line .entry))) r ⌝ }
+{
+    let count = read_some(fd, path, chunk);
+    if count == 0 {
+        return Place {
+            number: place.number,
+            kept: place.kept,
+            cut: place.cut,
+            catalogue: place.catalogue,
+            used: place.used,
+            ended: true,
+        };
+    }
+    serve_chunk(
+        &chunk[0..count],
+        place,
+        line,
+        table,
+        catalogue,
+        bytes,
+        space,
+        out,
+    )
+}
+
+// One turn fewer, and none where the file has ended.
+fn left(turns: u64, ended: bool) -> u64
+    requires { ⌜ 0 < turns ⌝ }
+    ensures { λ r. ⌜ r < turns ⌝ }
+{
+    if ended {
+        return 0;
+    }
+    turns - 1
+}
+
 // Serves all lines of an open file. A proved loop has to end, and nothing says that a file does: so the loop counts its turns
 // down, from a number that no run uses up.
 fn serve_file(
@@ -193,15 +247,14 @@ fn serve_file(
         cut: false,
         catalogue: 0,
         used: 0,
+        ended: false,
     };
     let mut turns = u64::MAX;
     while turns > 0 {
-        let count = read_some(fd, path, chunk);
-        if count == 0 {
-            break;
-        }
-        place = serve_chunk(
-            &chunk[0..count],
+        place = turn(
+            fd,
+            path,
+            chunk,
             place,
             line,
             table,
@@ -210,7 +263,7 @@ fn serve_file(
             space,
             out,
         );
-        turns -= 1;
+        turns = left(turns, place.ended);
     }
     let last = serve_last(line, place, table, catalogue, bytes, space, out);
     written(out, last.used, 0);
@@ -222,7 +275,7 @@ pub fn replay(fd: i32, path: &[u8]) {
     let mut catalogue = [0u8; 32768];
     let mut bytes = [0u8; 20000];
     let mut space = [0u8; 20000];
-    let mut line = [0u8; 1048576];
+    let mut line = [0u8; 131072];
     let mut out = [0u8; 131072];
     let mut chunk = [0u8; 65536];
     serve_file(

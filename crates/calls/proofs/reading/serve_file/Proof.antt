@@ -19,23 +19,11 @@ abbrev μ-loop : tie.MeasureT-loop
 loop-holds : tie.Need-loop-holds Inv-loop μ-loop
 loop-holds c = search needs
 
-read-some-requires : tie.Need-read-some-requires Inv-loop μ-loop
-read-some-requires c κs = search needs
+turn-requires : tie.Need-turn-requires Inv-loop μ-loop
+turn-requires c κs = search needs
 
-sub-serve-chunk : tie.Need-sub-serve-chunk Inv-loop μ-loop
-sub-serve-chunk c = search needs
-
-part-serve-chunk-start : tie.Need-part-serve-chunk-start Inv-loop μ-loop
-part-serve-chunk-start c = search needs
-
-part-serve-chunk-end : tie.Need-part-serve-chunk-end Inv-loop μ-loop
-part-serve-chunk-end c = search needs
-
-serve-chunk-requires : tie.Need-serve-chunk-requires Inv-loop μ-loop
-serve-chunk-requires c κs = search needs
-
-sub-turns : tie.Need-sub-turns Inv-loop μ-loop
-sub-turns c = search needs
+left-requires : tie.Need-left-requires Inv-loop μ-loop
+left-requires c κs = search needs
 
 loop-less : tie.Need-loop-less Inv-loop μ-loop
 loop-less c = search needs
@@ -80,12 +68,8 @@ serve-file-spec =
     Inv-loop
     μ-loop
     loop-holds
-    read-some-requires
-    sub-serve-chunk
-    part-serve-chunk-start
-    part-serve-chunk-end
-    serve-chunk-requires
-    sub-turns
+    turn-requires
+    left-requires
     loop-less
     loop-again
     serve-last-requires
