@@ -1,7 +1,7 @@
 -- A call that fits a part of a line fits the line, and a part is no longer than the whole. Assumes nothing.
 use mathlib.Core.Path.{_≡_, ap}
-use mathlib.Core.List.{List, [], _∷_}
-use Prim.Native.Nat.{ℕ, zero, suc, _≤_}
+use mathlib.Core.List.{List}
+use Prim.Native.Nat.{ℕ, _≤_}
 use native.Mathlib.Omega.{arith}
 use lib.ListN.{length, take, length-append, take-append-drop}
 use Rattle.lexing.specs.declared.Call.{Call}
@@ -19,8 +19,3 @@ fits-more m n (call.Connect a e) h f = omega arith
 fits-more m n (call.Open k a e) h f = (f .0, omega (arith, f .1), f .2)
 fits-more m n (call.Message k room a e) h f = (f .0, f .1, omega (arith, f .2), f .3)
 fits-more m n (call.Word a e) h f = f
-
-pub part-short : (k : ℕ) (s : List ℕ) → length (take k s) ≤ k
-part-short zero s = omega arith
-part-short (suc k) [] = omega arith
-part-short (suc k) (x ∷ s) = let h = part-short k s in omega arith

@@ -5,8 +5,8 @@ use native.Mathlib.Omega.{arith}
 use lib.ListN.{length}
 use Rattle.calls.specs.Room.{Stands}
 use borrow.Author.Needs.{needs}
-use Rattle.calls.proofs.reading.serve_chunk.Statement.{statement}
-use Rattle.calls.proofs.reading.serve_chunk.Tie as tie
+use Rattle.calls.proofs.serve_chunk.Statement.{statement}
+use Rattle.calls.proofs.serve_chunk.Tie as tie
 
 abbrev Inv-loop : tie.InvT-loop
 Inv-loop chunk line₀ table₀ catalogue₀ bytes₀ space₀ out₀ here₀ at₀ line table catalogue bytes space out here at =

@@ -3,7 +3,7 @@ ghost use mathlib.Core.Path.{_≡_};
 ghost use Prim.Native.Nat.{_+_, _-_, _*_, _/_, _≤_};
 ghost use lib.ListN.{length};
 ghost use Rattle.lexing.specs.Line.{Fits};
-ghost use Rattle.calls.specs.Room.{plain, answerMost, Leaves, Sized};
+ghost use Rattle.answers.specs.Room.{plain, answerMost, Leaves, Sized};
 use lexing::Call;
 use lexing::Reason;
 use wording::put;

@@ -4,11 +4,11 @@ use native.Mathlib.Omega.{arith}
 use lib.ListN.{length}
 use Rattle.calls.specs.Room.{Stands}
 use borrow.Author.Needs.{needs}
-use Rattle.calls.proofs.reading.serve_file.Statement.{statement}
-use Rattle.calls.proofs.reading.serve_file.Tie as tie
+use Rattle.calls.proofs.serve_file.Statement.{statement}
+use Rattle.calls.proofs.serve_file.Tie as tie
 
 abbrev Inv-loop : tie.InvT-loop
-Inv-loop fd path chunk₀ line₀ table₀ catalogue₀ bytes₀ space₀ out₀ place₀ turns₀ chunk line table catalogue bytes space out place turns = 
+Inv-loop fd path chunk₀ line₀ table₀ catalogue₀ bytes₀ space₀ out₀ place₀ turns₀ chunk line table catalogue bytes space out place turns =
     Stands (length line) place × (length chunk ≡ length chunk₀) × (length line ≡ length line₀) × (length table ≡ length table₀) × (length catalogue ≡ length catalogue₀)
     × (length bytes ≡ length bytes₀) × (length space ≡ length space₀) × (length out ≡ length out₀)
 

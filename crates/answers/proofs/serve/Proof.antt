@@ -1,10 +1,10 @@
 -- Each call fits the line, and its answer fits the output. Assumes nothing.
 use Prim.Native.Nat.{_-_}
 use native.Mathlib.Omega.{arith}
-use Rattle.calls.proofs.Fitting.{part-short}
+use Rattle.answers.proofs.Short.{part-short}
 use borrow.Author.Needs.{needs}
-use Rattle.calls.proofs.answers.serve.Statement.{statement}
-use Rattle.calls.proofs.answers.serve.Tie as tie
+use Rattle.answers.proofs.serve.Statement.{statement}
+use Rattle.answers.proofs.serve.Tie as tie
 
 enum-told : tie.Need-enum-told
 enum-told c = search needs
