@@ -1,0 +1,84 @@
+-- Between two reads the buffers have their lengths, and the place stands. Assumes nothing.
+use mathlib.Core.Path.{_≡_}
+use native.Mathlib.Omega.{arith}
+use lib.ListN.{length}
+use Rattle.calls.specs.Room.{Stands}
+use borrow.Author.Needs.{needs}
+use Rattle.calls.proofs.serve_file.Statement.{statement}
+use Rattle.calls.proofs.serve_file.Tie as tie
+
+abbrev Inv-loop : tie.InvT-loop
+Inv-loop fd path chunk₀ line₀ table₀ catalogue₀ bytes₀ space₀ out₀ place₀ turns₀ chunk line table catalogue bytes space out place turns =
+    Stands (length line) place × (length chunk ≡ length chunk₀) × (length line ≡ length line₀) × (length table ≡ length table₀) × (length catalogue ≡ length catalogue₀)
+    × (length bytes ≡ length bytes₀) × (length space ≡ length space₀) × (length out ≡ length out₀)
+
+abbrev μ-loop : tie.MeasureT-loop
+μ-loop fd path chunk₀ line₀ table₀ catalogue₀ bytes₀ space₀ out₀ place₀ turns₀ chunk line table catalogue bytes space out place turns =
+    turns
+
+loop-holds : tie.Need-loop-holds Inv-loop μ-loop
+loop-holds c = search needs
+
+turn-requires : tie.Need-turn-requires Inv-loop μ-loop
+turn-requires c κs = search needs
+
+left-requires : tie.Need-left-requires Inv-loop μ-loop
+left-requires c κs = search needs
+
+loop-less : tie.Need-loop-less Inv-loop μ-loop
+loop-less c = search needs
+
+loop-again : tie.Need-loop-again Inv-loop μ-loop
+loop-again c = search needs
+
+serve-last-requires : tie.Need-serve-last-requires Inv-loop μ-loop
+serve-last-requires c κs = search needs
+
+written-requires : tie.Need-written-requires Inv-loop μ-loop
+written-requires c κs = search needs
+
+same-length : tie.Need-same-length Inv-loop μ-loop
+same-length c = search needs
+
+same-length-2 : tie.Need-same-length-2 Inv-loop μ-loop
+same-length-2 c = search needs
+
+same-length-3 : tie.Need-same-length-3 Inv-loop μ-loop
+same-length-3 c = search needs
+
+same-length-4 : tie.Need-same-length-4 Inv-loop μ-loop
+same-length-4 c = search needs
+
+same-length-5 : tie.Need-same-length-5 Inv-loop μ-loop
+same-length-5 c = search needs
+
+same-length-6 : tie.Need-same-length-6 Inv-loop μ-loop
+same-length-6 c = search needs
+
+same-length-7 : tie.Need-same-length-7 Inv-loop μ-loop
+same-length-7 c = search needs
+
+returns : tie.Need-returns Inv-loop μ-loop
+returns c = search needs
+
+pub serve-file-spec : {M : Type 1} → statement M
+serve-file-spec =
+    tie.close
+    (tie.spec
+    Inv-loop
+    μ-loop
+    loop-holds
+    turn-requires
+    left-requires
+    loop-less
+    loop-again
+    serve-last-requires
+    written-requires
+    same-length
+    same-length-2
+    same-length-3
+    same-length-4
+    same-length-5
+    same-length-6
+    same-length-7
+    returns)

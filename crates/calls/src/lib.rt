@@ -1,0 +1,292 @@
+// A file of recorded calls is read in chunks, each call is served, and the answers are written by the buffer.
+ghost use Prim.Native.Nat.{_+_, _≤_, _<_};
+ghost use lib.ListN.{length};
+ghost use Rattle.lexing.specs.Line.{Fits};
+ghost use Rattle.answers.specs.Room.{Sized};
+ghost use Rattle.calls.specs.Room.{Stands};
+use lexing::Call;
+use lexing::Reason;
+
+// Where the program stands: the number of the present line, how many of its bytes are kept and whether there were more, the
+// length of the lent catalogue, how much of the output waits to be written, and whether the file has ended.
+struct Place {
+    number: u64,
+    kept: usize,
+    cut: bool,
+    catalogue: usize,
+    used: usize,
+    ended: bool,
+}
+
+const FULL: usize = 65536;
+
+// Keeps the bytes of a part of a line, as far as there is room.
+fn keep(line: &mut [u8], place: Place, part: &[u8]) -> Place
+    requires { ⌜ Stands (length (now line)) place ⌝ }
+    ensures { λ r. ⌜ Stands (length (now (line .entry))) r ⌝ }
+{
+    let kept = place.kept;
+    let room = line.len() - kept;
+    if room < part.len() {
+        spans::lay_bytes(line, kept, &part[0..room]);
+        return Place {
+            number: place.number,
+            kept: kept + room,
+            cut: true,
+            catalogue: place.catalogue,
+            used: place.used,
+            ended: false,
+        };
+    }
+    spans::lay_bytes(line, kept, part);
+    Place {
+        number: place.number,
+        kept: kept + part.len(),
+        cut: place.cut,
+        catalogue: place.catalogue,
+        used: place.used,
+        ended: false,
+    }
+}
+
+// The call that the kept bytes are. A line that was cut is too long, unless the cut is in its comment.
+fn call_of(line: &[u8], cut: bool) -> Call
+    ensures { λ r. ⌜ Fits (length (now (line .entry))) r ⌝ }
+{
+    let end = lexing::before_comment(line);
+    if end < line.len() {
+        return lexing::read(&line[0..end]);
+    }
+    if cut {
+        return Call::Fault(Reason::TooLong);
+    }
+    lexing::read(line)
+}
+
+// Writes the waiting output where it is more than so much. Answers how much waits then.
+fn written(out: &[u8], used: usize, most: usize) -> usize
+    requires { ⌜ used ≤ length (now out) ⌝ }
+    ensures { λ r. ⌜ r ≤ most ⌝ }
+{
+    if used <= most {
+        return used;
+    }
+    io::write_all(1, &out[0..used]);
+    0
+}
+
+// Serves the line whose bytes are kept, and goes on to the next.
+fn serve(
+    line: &[u8],
+    place: Place,
+    table: &mut [u32],
+    catalogue: &mut [u8],
+    bytes: &mut [u8],
+    space: &mut [u8],
+    out: &mut [u8],
+) -> Place
+    requires { ⌜ Stands (length (now line)) place × Sized (length (now table)) (length (now catalogue)) (length (now bytes)) (length (now space)) (length (now out)) ⌝ }
+    ensures { λ r. ⌜ Stands (length (now (line .entry))) r ⌝ }
+{
+    let kept = place.kept;
+    let number = place.number;
+    let text = &line[0..kept];
+    let call = call_of(text, place.cut);
+    let left = answers::serve(
+        call,
+        text,
+        number,
+        table,
+        catalogue,
+        place.catalogue,
+        bytes,
+        space,
+        out,
+        place.used,
+    );
+    let lent = left.catalogue;
+    let used = written(out, left.used, FULL);
+    Place {
+        number: std::num::wrapping_add_u64(number, 1),
+        kept: 0,
+        cut: false,
+        catalogue: lent,
+        used,
+        ended: false,
+    }
+}
+
+// Serves the lines that end in a chunk, and keeps the bytes after the last of them.
+fn serve_chunk(
+    chunk: &[u8],
+    place: Place,
+    line: &mut [u8],
+    table: &mut [u32],
+    catalogue: &mut [u8],
+    bytes: &mut [u8],
+    space: &mut [u8],
+    out: &mut [u8],
+) -> Place
+    requires { ⌜ Stands (length (now line)) place × Sized (length (now table)) (length (now catalogue)) (length (now bytes)) (length (now space)) (length (now out)) ⌝ }
+    ensures { λ r. ⌜ Stands (length (now (line .entry))) r ⌝ }
+{
+    let mut here = place;
+    let mut at = 0;
+    while at < chunk.len() {
+        let end = lexing::before_feed(chunk, at);
+        here = keep(line, here, &chunk[at..end]);
+        if end < chunk.len() {
+            here = serve(line, here, table, catalogue, bytes, space, out);
+            at = end + 1;
+        } else {
+            at = end;
+        }
+    }
+    here
+}
+
+// Serves what stands after the last line feed, if it holds a byte.
+fn serve_last(
+    line: &[u8],
+    place: Place,
+    table: &mut [u32],
+    catalogue: &mut [u8],
+    bytes: &mut [u8],
+    space: &mut [u8],
+    out: &mut [u8],
+) -> Place
+    requires { ⌜ Stands (length (now line)) place × Sized (length (now table)) (length (now catalogue)) (length (now bytes)) (length (now space)) (length (now out)) ⌝ }
+    ensures { λ r. ⌜ Stands (length (now (line .entry))) r ⌝ }
+{
+    if place.kept == 0 {
+        return place;
+    }
+    serve(line, place, table, catalogue, bytes, space, out)
+}
+
+// Reads once. Answers how many bytes came: none at the end, or where the read fails, which is then said.
+fn read_some(fd: i32, path: &[u8], chunk: &mut [u8]) -> usize
+    ensures { λ r. ⌜ r ≤ length (now (chunk .entry)) ⌝ }
+{
+    let got = libc::read(fd, chunk);
+    if got < 0 {
+        os::fail(path);
+        return 0;
+    }
+    io::count(got, chunk)
+}
+
+// Reads once and serves the lines that end there.
+fn turn(
+    fd: i32,
+    path: &[u8],
+    chunk: &mut [u8],
+    place: Place,
+    line: &mut [u8],
+    table: &mut [u32],
+    catalogue: &mut [u8],
+    bytes: &mut [u8],
+    space: &mut [u8],
+    out: &mut [u8],
+) -> Place
+    requires { ⌜ Stands (length (now line)) place × Sized (length (now table)) (length (now catalogue)) (length (now bytes)) (length (now space)) (length (now out)) ⌝ }
+    ensures { λ r. ⌜ Stands (length (now (line .entry))) r ⌝ }
+{
+    let count = read_some(fd, path, chunk);
+    if count == 0 {
+        return Place {
+            number: place.number,
+            kept: place.kept,
+            cut: place.cut,
+            catalogue: place.catalogue,
+            used: place.used,
+            ended: true,
+        };
+    }
+    serve_chunk(
+        &chunk[0..count],
+        place,
+        line,
+        table,
+        catalogue,
+        bytes,
+        space,
+        out,
+    )
+}
+
+// One turn fewer, and none where the file has ended.
+fn left(turns: u64, ended: bool) -> u64
+    requires { ⌜ 0 < turns ⌝ }
+    ensures { λ r. ⌜ r < turns ⌝ }
+{
+    if ended {
+        return 0;
+    }
+    turns - 1
+}
+
+// Serves all lines of an open file. A proved loop has to end, and nothing says that a file does: so the loop counts its turns
+// down, from a number that no run uses up.
+fn serve_file(
+    fd: i32,
+    path: &[u8],
+    chunk: &mut [u8],
+    line: &mut [u8],
+    table: &mut [u32],
+    catalogue: &mut [u8],
+    bytes: &mut [u8],
+    space: &mut [u8],
+    out: &mut [u8],
+)
+    requires { ⌜ Sized (length (now table)) (length (now catalogue)) (length (now bytes)) (length (now space)) (length (now out)) ⌝ }
+{
+    let mut place = Place {
+        number: 1,
+        kept: 0,
+        cut: false,
+        catalogue: 0,
+        used: 0,
+        ended: false,
+    };
+    let mut turns = u64::MAX;
+    while turns > 0 {
+        place = turn(
+            fd,
+            path,
+            chunk,
+            place,
+            line,
+            table,
+            catalogue,
+            bytes,
+            space,
+            out,
+        );
+        turns = left(turns, place.ended);
+    }
+    let last = serve_last(line, place, table, catalogue, bytes, space, out);
+    written(out, last.used, 0);
+}
+
+// Serves the recorded calls of an open file, and writes the answers to standard output.
+pub fn replay(fd: i32, path: &[u8]) {
+    let mut table = [0u32; 17200];
+    let mut catalogue = [0u8; 32768];
+    let mut bytes = [0u8; 20000];
+    let mut space = [0u8; 20000];
+    let mut line = [0u8; 131072];
+    let mut out = [0u8; 131072];
+    let mut chunk = [0u8; 65536];
+    serve_file(
+        fd,
+        path,
+        &mut chunk,
+        &mut line,
+        &mut table,
+        &mut catalogue,
+        &mut bytes,
+        &mut space,
+        &mut out,
+    );
+}

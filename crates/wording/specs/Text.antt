@@ -1,0 +1,45 @@
+-- The text of answers: numbers, bytes, and what the reply buffer was filled with.
+use mathlib.Core.Path.{_≡_}
+use mathlib.Core.Bool.{Bool, true, false}
+use mathlib.Core.List.{List, [], _∷_}
+use Prim.Native.Nat.{ℕ, _+_, _-_, _*_, _/_, _%_, _≤_}
+use lib.Dec.{eqb, ltb}
+use lib.ListN.{length}
+use Rattle.io.specs.Digits.{digits, Fewest}
+use Rattle.words.specs.Below.{pick, either}
+use Rattle.spans.specs.Laid.{lay}
+
+-- a text was laid at a place, and the place after it is told
+pub record Put (text : List ℕ) (at r : ℕ) (before after : List ℕ) : Type 0 where
+  pub next : r ≡ at + length text
+  pub laid : after ≡ lay before at text
+
+-- a number's decimal digits were laid at a place: as few as hold it
+pub record PutDecimal (n at r : ℕ) (before after : List ℕ) : Type 0 where
+  pub from : at ≤ r
+  pub most : r ≤ at + 20
+  pub few : Fewest 10 1 n (r - at)
+  pub laid : after ≡ lay before at (digits 10 (r - at) n)
+
+-- a hex digit, "upper case"
+abbrev pub glyph : ℕ → ℕ
+glyph d = pick (ltb d 10) (d + 48) (d + 55)
+
+-- two digits for each byte, the high one first
+unfoldable pub hexPairs : List ℕ → List ℕ
+hexPairs [] = []
+hexPairs (b ∷ s) = glyph (b / 16) ∷ glyph (b % 16) ∷ hexPairs s
+
+-- "HEX: the COUNT bytes written, upper case, or - for none"
+unfoldable pub hexText : List ℕ → List ℕ
+hexText [] = 45 ∷ []
+hexText (b ∷ s) = hexPairs (b ∷ s)
+
+-- "The reply buffer is filled with 0xAA before each message"
+abbrev pub fillByte : ℕ
+fillByte = 170
+
+-- "a byte past COUNT changed"
+unfoldable pub changed : List ℕ → Bool
+changed [] = false
+changed (b ∷ s) = either (pick (eqb b fillByte) false true) (changed s)
