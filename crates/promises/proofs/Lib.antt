@@ -1,0 +1,4 @@
+pub mod First
+pub mod Refusals
+pub mod Unchanged
+pub mod Reached
