@@ -2,3 +2,5 @@ pub mod First
 pub mod Refusals
 pub mod Unchanged
 pub mod Reached
+pub mod Alone
+pub mod Isolated

@@ -51,7 +51,7 @@ pub fresh-below : (bound : ℕ) → tableBelow bound freshTable ≡ true
 unfolding freshTable tableBelow everyBelow
 fresh-below bound = refl
 
-fresh-passes : (s : List ℕ) (rows : List Row) → catalogue s ≡ some rows → Passing (sourcesOf s) freshTable
+pub fresh-passes : (s : List ℕ) (rows : List Row) → catalogue s ≡ some rows → Passing (sourcesOf s) freshTable
 fresh-passes s rows e =
     record { well = fresh-well; holds = ap (λ (o : Option (List Row)). rowsHold o freshTable) e ∙ fresh-below (length rows) }
 
