@@ -4,3 +4,5 @@ pub mod Unchanged
 pub mod Reached
 pub mod Alone
 pub mod Isolated
+pub mod Served
+pub mod Carried
