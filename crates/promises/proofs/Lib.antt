@@ -6,3 +6,4 @@ pub mod Alone
 pub mod Isolated
 pub mod Served
 pub mod Carried
+pub mod Joined

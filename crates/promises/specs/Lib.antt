@@ -2,3 +2,4 @@ pub mod Calls
 pub mod Causes
 pub mod Told
 pub mod Own
+pub mod Rows

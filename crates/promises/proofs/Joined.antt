@@ -1,0 +1,60 @@
+-- The rows of a cursor's replies joined are the first rows of its selection, each once. Assumes nothing.
+use mathlib.Core.Path.{_≡_, refl, sym, ap, _∙_}
+use mathlib.Core.Bool.{Bool, true, false}
+use mathlib.Core.List.{List, [], _∷_, _++_}
+use mathlib.Core.Option.{Option, none, some}
+use Prim.Native.Nat.{ℕ, _+_}
+use lib.Dec.{eqb}
+use lib.ListN.{take, drop}
+use lib.Seq.{take-add}
+use Rattle.words.specs.Below.{pick, both}
+use Rattle.words.proofs.Below.{by-test}
+use Rattle.bindings.specs.Bindings.{Bindings}
+use Rattle.bindings.specs.Plain.{bindings}
+use Rattle.sessions.specs.Seat.{Cursor}
+use Rattle.messages.specs.Message.{msgOf, handleOf}
+use Rattle.server.specs.Step.{Sources}
+use Rattle.promises.specs.Calls.{Call, connecting, opening, messaging, Answer, Event}
+use Rattle.promises.specs.Told.{carriedOn, boundOn, accepted, afterMessage, afterCall, cursorTold}
+use Rattle.promises.specs.Rows.{countIn, pageOn, joinedMessage, joinedCall, rowsTold, firstRows}
+
+page-joined : (reply : List ℕ) (c : Option Cursor) → firstRows (carriedOn reply c) ≡ pageOn reply c (firstRows c)
+page-joined reply none = refl
+page-joined reply (some c) = take-add (c .position) (countIn reply) (c .selection)
+
+bound-joined : (b : Option Bindings) (c : Option Cursor) → firstRows (boundOn b c) ≡ firstRows c
+bound-joined none c = refl
+bound-joined (some b) none = refl
+bound-joined (some b) (some c) = refl
+
+message-joined : (handle : ℕ) (m reply : List ℕ) (c : Option Cursor) → firstRows (afterMessage handle m reply c) ≡ joinedMessage handle m reply c (firstRows c)
+message-joined handle m reply c =
+    by-test (eqb (msgOf m) 0xC9)
+    (λ a. rw a)
+    (λ a.
+    by-test (eqb (handleOf m) handle)
+    (λ h.
+    by-test (eqb (msgOf m) 0xCB)
+    (λ b. rw (a, h, b))
+    (λ b.
+    by-test (eqb (msgOf m) 0xCC)
+    (λ d. rw (a, h, b, d) (page-joined reply c))
+    (λ d. rw (a, h, b, d) (bound-joined (bindings m) c))))
+    (λ h. rw (a, h)))
+
+call-joined : (src : Sources) (seat handle : ℕ) (c : Option Cursor) (d : Call) (a : Answer)
+    → firstRows (afterCall src seat handle c d a) ≡ joinedCall seat handle c (firstRows c) d a
+call-joined src seat handle c (connecting k version) a = refl
+call-joined src seat handle c (opening k tree) a =
+    by-test (both (accepted seat k a) (eqb (a .handle) handle)) (λ q. rw q) (λ q. rw q)
+call-joined src seat handle c (messaging k m room) a =
+    by-test (accepted seat k a) (λ q. rw q (message-joined handle m (a .reply) c)) (λ q. rw q)
+
+pub joined-first : (src : Sources) (seat handle : ℕ) (c : Option Cursor) (events : List Event)
+    → rowsTold src seat handle c (firstRows c) events ≡ firstRows (cursorTold src seat handle c events)
+unfolding rowsTold cursorTold
+joined-first src seat handle c [] = refl
+joined-first src seat handle c (e ∷ events) =
+    ap (λ (joined : List ℕ). rowsTold src seat handle (afterCall src seat handle c (e .call) (e .answer)) joined events)
+    (sym (call-joined src seat handle c (e .call) (e .answer)))
+    ∙ joined-first src seat handle (afterCall src seat handle c (e .call) (e .answer)) events
