@@ -5,5 +5,6 @@ pub mod Reached
 pub mod Alone
 pub mod Isolated
 pub mod Served
+pub mod Replies
 pub mod Carried
 pub mod Joined

@@ -14,6 +14,7 @@ use Rattle.cells.specs.Field.{fieldOf}
 use Rattle.spans.specs.Each.{Each, Pairwise}
 use Rattle.spans.specs.Laid.{Laid, Inside, Clear, Outside}
 use Rattle.sessions.specs.Seat.{Cursor}
+use Rattle.requests.specs.Request.{request}
 use Rattle.requests.specs.declared.Request.{Request}
 use Rattle.rows.specs.Page.{Fits, pageSpans, pageBytes, endOfRows}
 use Rattle.rows.specs.Reads.{rowIn, rowPlace, blockPlace, Reads, HeadReads}
@@ -21,7 +22,7 @@ use Rattle.fetching.specs.Fetch.{numbered, remaining}
 use Rattle.messages.specs.Message.{msgOf, handleOf}
 use Rattle.server.specs.Step.{Sources}
 use Rattle.promises.specs.Calls.{Call, connecting, opening, messaging, Answer, Event}
-use Rattle.promises.specs.Told.{accepted, afterCall}
+use Rattle.promises.specs.Told.{accepted, afterCall, cursorTold}
 
 -- "_cRowsReturned" and the status, as the reply's bytes say them
 abbrev pub countIn : List ℕ → ℕ
@@ -98,3 +99,13 @@ rowsTold src seat handle c joined (e ∷ events) =
 abbrev pub firstRows : Option Cursor → List ℕ
 firstRows none = []
 firstRows (some c) = take (c .position) (c .selection)
+
+-- an accepted request for rows after some calls: what they and their answers tell of its cursor, and what its reply then says. So the
+-- rows of the replies before are the first rows of the selection that its opening made, and the reply's rows are the next ones.
+pub record Carries (src : Sources) (rows : List Row) (events : List Event) (seat : ℕ) (m reply : List ℕ) : Type 0 where
+  pub cursor : Cursor
+  pub asked : Request
+  pub told : cursorTold src seat (handleOf m) none events ≡ some cursor
+  pub body : request m ≡ some asked
+  pub before : rowsTold src seat (handleOf m) none [] events ≡ take (cursor .position) (cursor .selection)
+  pub says : RowsReply rows cursor asked reply
