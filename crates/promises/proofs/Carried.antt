@@ -55,13 +55,13 @@ with-in s h handle o a b =
     a
 
 -- a handle that is open is one of the two, and so is one that is free
-open-handle : (s : Seat) (h : ℕ) → isOpen (cursorIn s h) ≡ true → Handle h
+pub open-handle : (s : Seat) (h : ℕ) → isOpen (cursorIn s h) ≡ true → Handle h
 open-handle s h e =
     by-test (eqb h 1)
     (λ q. inl (eqb-true h 1 q))
     (λ q. by-test (eqb h 2) (λ k. inr (eqb-true h 2 k)) (λ k. absurd (true≢false (sym (rw (q, k) at e)))))
 
-free-handle : (s : Seat) → eqb (freeHandle s) 0 ≡ false → Handle (freeHandle s)
+pub free-handle : (s : Seat) → eqb (freeHandle s) 0 ≡ false → Handle (freeHandle s)
 free-handle s e =
     by-test (isOpen (s .first))
     (λ q. by-test (isOpen (s .second)) (λ k. absurd (true≢false (rw (q, k) at e))) (λ k. rw (q, k) (inr refl)))
@@ -169,7 +169,7 @@ module _ (rows : List Row) (s : Seat) (m : List ℕ) where
       rw (k, a, b, d) (bind-told handle n (r .cursor) (r .body) (r .held) (r .reads))
 
   -- a message that its seat accepts is done by its kind, which is one of the four
-  accepted-kind : firstCause (seatCauses rows (some s) m) ≡ 0 → Kind (msgOf m) × (firstCause (bodyCauses rows (kindOf (msgOf m)) s m) ≡ 0)
+  pub accepted-kind : firstCause (seatCauses rows (some s) m) ≡ 0 → Kind (msgOf m) × (firstCause (bodyCauses rows (kindOf (msgOf m)) s m) ≡ 0)
   unfolding firstCause
   accepted-kind e =
       let b = first-both (gateCauses (some s) m) (bodyOf rows (some s) m) (gate-numbered (some s) m) e in

@@ -8,3 +8,5 @@ pub mod Served
 pub mod Replies
 pub mod Carried
 pub mod Joined
+pub mod Fetched
+pub mod Opened

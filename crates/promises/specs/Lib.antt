@@ -3,3 +3,4 @@ pub mod Causes
 pub mod Told
 pub mod Own
 pub mod Rows
+pub mod Opens
