@@ -8,11 +8,11 @@ use Prim.Native.Nat.{ℕ, _+_, _*_, _≤_, _<_}
 use native.Mathlib.Omega.{arith}
 use borrow.Author.Tests.{eqb-true, eqb-false, eq-eqb}
 use lib.Dec.{eqb}
-use lib.ListN.{length, getD, take, getD-replicate}
+use lib.ListN.{length, take}
 use Rattle.words.proofs.Below.{by-test}
 use Rattle.catalogue.specs.Plain.{Row, catalogue}
 use Rattle.columns.specs.Fit.{fit}
-use Rattle.sessions.specs.Layout.{seats, seatSize, seatAt, tableSize}
+use Rattle.sessions.specs.Layout.{seats}
 use Rattle.sessions.specs.Seat.{Cursor, Seat, cursorIn}
 use Rattle.sessions.specs.Fits.{CursorFits, SeatOk}
 use Rattle.refusals.specs.Refusal.{firstCause}
@@ -22,12 +22,12 @@ use Rattle.fetching.specs.Fetch.{fetchReply}
 use Rattle.fetching.specs.Ready.{rowsOf}
 use Rattle.messages.specs.Message.{msgOf, handleOf, kindOf, kindFrom, served, isOpen, seatCauses, doneOn, seatMessage}
 use Rattle.server.specs.Step.{Sources, sourcesOf, judging, seatHeld, sizing, messageStep}
-use Rattle.server.proofs.Seating.{seat-ok, held-none}
+use Rattle.server.proofs.Seating.{seat-ok}
 use Rattle.promises.specs.Calls.{Call, messaging, step, history, after, freshTable}
 use Rattle.promises.specs.Told.{cursorTold, cursorBy, heldCursor}
 use Rattle.promises.specs.Rows.{rowsTold, firstRows, RowsReply, Carries}
 use Rattle.promises.proofs.Refusals.{seat-refusal, accepted-passes}
-use Rattle.promises.proofs.Reached.{fresh-well}
+use Rattle.promises.proofs.Reached.{fresh-seat}
 use Rattle.promises.proofs.Served.{fetching}
 use Rattle.promises.proofs.Replies.{rows-held, reply-is}
 use Rattle.promises.proofs.Carried.{Handle, open-handle, accepted-kind, after-told}
@@ -35,10 +35,7 @@ use Rattle.promises.proofs.Joined.{joined-first}
 
 -- the fresh table holds no cursor
 pub fresh-none : (seat handle : ℕ) → seat < seats → heldCursor freshTable seat handle ≡ none
-unfolding freshTable
-fresh-none seat handle h =
-    ap (λ (o : Option Seat). cursorBy o handle)
-    (held-none freshTable fresh-well seat h (getD-replicate tableSize (seatAt seat) 0 0 (omega arith)))
+fresh-none seat handle h = ap (λ (o : Option Seat). cursorBy o handle) (fresh-seat seat h)
 
 -- from the fresh table on, every cursor is what the calls and their answers tell
 pub told : (s : List ℕ) (calls : List Call) (seat handle : ℕ) → seat < seats → Handle handle

@@ -10,3 +10,5 @@ pub mod Carried
 pub mod Joined
 pub mod Fetched
 pub mod Opened
+pub mod Numbers
+pub mod Case

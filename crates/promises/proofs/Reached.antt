@@ -6,15 +6,16 @@ use mathlib.Core.Option.{Option, none, some}
 use Prim.Native.Nat.{ℕ, _<_}
 use native.Mathlib.Omega.{arith}
 use lib.Dec.{eqb}
-use lib.ListN.{length}
+use lib.ListN.{length, getD-replicate}
 use borrow.Author.Tests.{eqb-true, eqb-false}
 use Rattle.words.specs.Below.{everyBelow}
 use Rattle.words.proofs.Below.{by-test, true≢false, every-shown}
 use Rattle.catalogue.specs.Plain.{Row, catalogue}
-use Rattle.sessions.specs.Layout.{seats, blockOf}
+use Rattle.sessions.specs.Layout.{seats, seatAt, tableSize}
 use Rattle.sessions.specs.Well.{seatWell, tableWell, tableBelow, seatBelow}
 use Rattle.sessions.specs.Seat.{seatOf, seatBlock}
-use Rattle.server.specs.Step.{Sources, sourcesOf, rowsHold}
+use Rattle.server.specs.Step.{Sources, sourcesOf, rowsHold, seatHeld}
+use Rattle.server.proofs.Seating.{held-none}
 use Rattle.server.proofs.Passing.{Passing, connect-passes, open-passes, message-passes}
 use Rattle.promises.specs.Calls.{Call, connecting, opening, messaging, step, after, freshTable}
 use Rattle.promises.proofs.Refusals.{accepted-passes}
@@ -46,6 +47,10 @@ malformed-after src t (c ∷ calls) e =
 pub fresh-well : tableWell freshTable ≡ true
 unfolding freshTable tableWell seatWell everyBelow
 fresh-well = refl
+
+pub fresh-seat : (seat : ℕ) → seat < seats → seatHeld freshTable seat ≡ none
+unfolding freshTable
+fresh-seat seat h = held-none freshTable fresh-well seat h (getD-replicate tableSize (seatAt seat) 0 0 (omega arith))
 
 pub fresh-below : (bound : ℕ) → tableBelow bound freshTable ≡ true
 unfolding freshTable tableBelow everyBelow

@@ -4,3 +4,5 @@ pub mod Told
 pub mod Own
 pub mod Rows
 pub mod Opens
+pub mod Numbers
+pub mod Case
