@@ -23,7 +23,7 @@ use Rattle.fetching.specs.Ready.{rowsOf}
 use Rattle.messages.specs.Message.{msgOf, handleOf, kindOf, kindFrom, served, isOpen, seatCauses, doneOn, seatMessage}
 use Rattle.server.specs.Step.{Sources, sourcesOf, judging, seatHeld, sizing, messageStep}
 use Rattle.server.proofs.Seating.{seat-ok}
-use Rattle.promises.specs.Calls.{Call, messaging, step, history, after, freshTable}
+use Rattle.promises.specs.Calls.{Call, messaging, step, answerOf, history, after, freshTable}
 use Rattle.promises.specs.Told.{cursorTold, cursorBy, heldCursor}
 use Rattle.promises.specs.Rows.{rowsTold, firstRows, RowsReply, Carries}
 use Rattle.promises.proofs.Refusals.{seat-refusal, accepted-passes}
@@ -31,7 +31,7 @@ use Rattle.promises.proofs.Reached.{fresh-seat}
 use Rattle.promises.proofs.Served.{fetching}
 use Rattle.promises.proofs.Replies.{rows-held, reply-is}
 use Rattle.promises.proofs.Carried.{Handle, open-handle, accepted-kind, after-told}
-use Rattle.promises.proofs.Joined.{joined-first}
+use Rattle.promises.proofs.Joined.{joined-first, page-further}
 
 -- the fresh table holds no cursor
 pub fresh-none : (seat handle : ℕ) → seat < seats → heldCursor freshTable seat handle ≡ none
@@ -105,7 +105,7 @@ by-seat src t seat m room =
 pub carries : (s : List ℕ) (rows : List Row) → catalogue s ≡ some rows → (calls : List Call) (seat : ℕ) (m : List ℕ) (room : ℕ)
     → let t = after (sourcesOf s) freshTable calls in
     step (sourcesOf s) t (messaging seat m room) .refusal ≡ 0 → msgOf m ≡ 0xCC
-    → Carries (sourcesOf s) rows (history (sourcesOf s) freshTable calls) seat m (step (sourcesOf s) t (messaging seat m room) .reply)
+    → Carries (sourcesOf s) rows (history (sourcesOf s) freshTable calls) seat m room (answerOf (step (sourcesOf s) t (messaging seat m room)))
 carries s rows e calls seat m room z g =
     let t = after (sourcesOf s) freshTable calls in
     let a = accepted-passes (sourcesOf s) t (messaging seat m room) z in
@@ -123,4 +123,6 @@ carries s rows e calls seat m room z g =
           subst (RowsReply rows (v .cursor) (v .asked))
           (sym (b .1 ∙ v .reply ∙ ap (λ (o : Option (List Row)). fetchReply (rowsOf o) (v .cursor) (v .asked)) e))
           (reply-is rows (rows-held s rows e) (v .cursor) (v .asked) (v .fits) (v .bound) (v .sound));
+      joined =
+          page-further (sourcesOf s) (history (sourcesOf s) freshTable calls) seat m room (answerOf (step (sourcesOf s) t (messaging seat m room))) (v .cursor) z g cursor;
     }

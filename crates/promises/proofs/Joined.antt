@@ -4,6 +4,7 @@ use mathlib.Core.Bool.{Bool, true, false}
 use mathlib.Core.List.{List, [], _∷_, _++_}
 use mathlib.Core.Option.{Option, none, some}
 use Prim.Native.Nat.{ℕ, _+_}
+use borrow.Author.Tests.{eq-eqb}
 use lib.Dec.{eqb}
 use lib.ListN.{take, drop}
 use lib.Seq.{take-add}
@@ -58,3 +59,23 @@ joined-first src seat handle c (e ∷ events) =
     ap (λ (joined : List ℕ). rowsTold src seat handle (afterCall src seat handle c (e .call) (e .answer)) joined events)
     (sym (call-joined src seat handle c (e .call) (e .answer)))
     ∙ joined-first src seat handle (afterCall src seat handle c (e .call) (e .answer)) events
+
+-- calls after calls
+pub told-further : (src : Sources) (seat handle : ℕ) (c : Option Cursor) (a b : List Event)
+    → cursorTold src seat handle c (a ++ b) ≡ cursorTold src seat handle (cursorTold src seat handle c a) b
+unfolding cursorTold
+told-further src seat handle c [] b = refl
+told-further src seat handle c (e ∷ a) b = told-further src seat handle (afterCall src seat handle c (e .call) (e .answer)) a b
+
+-- an accepted request for rows after events that tell a cursor
+pub page-further : (src : Sources) (events : List Event) (seat : ℕ) (m : List ℕ) (room : ℕ) (answer : Answer) (c : Cursor) → answer .refusal ≡ 0 → msgOf m ≡ 0xCC
+    → cursorTold src seat (handleOf m) none events ≡ some c
+    → rowsTold src seat (handleOf m) none [] (events ++ (record { call = messaging seat m room; answer = answer } ∷ []))
+    ≡ take (c .position + countIn (answer .reply)) (c .selection)
+unfolding cursorTold
+page-further src events seat m room answer c z g e =
+    joined-first src seat (handleOf m) none (events ++ (record { call = messaging seat m room; answer = answer } ∷ []))
+    ∙ ap firstRows
+    (told-further src seat (handleOf m) none events (record { call = messaging seat m room; answer = answer } ∷ [])
+    ∙ ap (λ (o : Option Cursor). afterCall src seat (handleOf m) o (messaging seat m room) answer) e)
+    ∙ rw (eq-eqb seat seat refl, z, g, eq-eqb (handleOf m) (handleOf m) refl)

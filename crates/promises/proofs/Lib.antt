@@ -12,3 +12,4 @@ pub mod Fetched
 pub mod Opened
 pub mod Numbers
 pub mod Case
+pub mod Kept

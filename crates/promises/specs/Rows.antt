@@ -100,12 +100,14 @@ abbrev pub firstRows : Option Cursor → List ℕ
 firstRows none = []
 firstRows (some c) = take (c .position) (c .selection)
 
--- an accepted request for rows after some calls: what they and their answers tell of its cursor, and what its reply then says. So the
--- rows of the replies before are the first rows of the selection that its opening made, and the reply's rows are the next ones.
-pub record Carries (src : Sources) (rows : List Row) (events : List Event) (seat : ℕ) (m reply : List ℕ) : Type 0 where
+-- an accepted request for rows after some calls: what they and their answers tell of its cursor, and what its reply then says. The rows
+-- of the replies before are the first rows of the selection that its opening made, and with this reply's they still are.
+pub record Carries (src : Sources) (rows : List Row) (events : List Event) (seat : ℕ) (m : List ℕ) (room : ℕ) (answer : Answer) : Type 0 where
   pub cursor : Cursor
   pub asked : Request
   pub told : cursorTold src seat (handleOf m) none events ≡ some cursor
   pub body : request m ≡ some asked
   pub before : rowsTold src seat (handleOf m) none [] events ≡ take (cursor .position) (cursor .selection)
-  pub says : RowsReply rows cursor asked reply
+  pub says : RowsReply rows cursor asked (answer .reply)
+  pub joined : rowsTold src seat (handleOf m) none [] (events ++ (record { call = messaging seat m room; answer = answer } ∷ []))
+      ≡ take (cursor .position + countIn (answer .reply)) (cursor .selection)
