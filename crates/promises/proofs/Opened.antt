@@ -23,6 +23,7 @@ use Rattle.messages.specs.Message.{isOpen}
 use Rattle.opening.specs.Open.{freeHandle, openCauses}
 use Rattle.server.specs.Step.{Sources, sourcesOf, Outcome, rowsHold, judging, seatHeld, openDone, openStep}
 use Rattle.server.proofs.Causes.{judging-numbered}
+use Rattle.server.proofs.Opening.{closed}
 use Rattle.promises.specs.Calls.{opening, step, Answer, answerOf}
 use Rattle.promises.specs.Told.{afterCall, cursorBy, heldCursor}
 use Rattle.promises.specs.Opens.{Opens}
@@ -78,10 +79,6 @@ admitted s t seat bytes z =
             }
 
 -- the handle that is given is the lowest that is free
-closed : (o : Option Cursor) → isOpen o ≡ false → o ≡ none
-closed none e = refl
-closed (some c) e = absurd (true≢false e)
-
 still-open : (o : Option Cursor) → isOpen o ≡ true → o ≡ none → ⊥
 still-open o e n = true≢false (sym e ∙ ap isOpen n)
 

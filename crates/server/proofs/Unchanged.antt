@@ -82,7 +82,7 @@ on-seat rows held m =
             (λ r. by-test (eqb kind 2) (λ l. rw (q, r, l) (f (cursorIn k (handleOf m)) (request m))) (λ l. rw (q, r, l))))
 
 -- a seat put back in its place
-pub seated-back : (t : List ℕ) → tableWell t ≡ true → (seat : ℕ) → seat < seats → seated t seat (seatHeld t seat) ≡ t
+seated-back : (t : List ℕ) → tableWell t ≡ true → (seat : ℕ) → seat < seats → seated t seat (seatHeld t seat) ≡ t
 seated-back t w seat h =
     ap (λ (block : List ℕ). take (seatAt seat) t ++ (block ++ drop seatSize (drop (seatAt seat) t))) (sym (block-is t w seat h))
     ∙ ap (λ (rest : List ℕ). take (seatAt seat) t ++ rest) (take-append-drop seatSize (drop (seatAt seat) t))
