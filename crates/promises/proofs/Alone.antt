@@ -1,18 +1,18 @@
 -- What a call does in a table that passes depends on its own seat alone, and changes no other. Assumes nothing.
-use mathlib.Core.Path.{_≡_, refl, sym, ap, subst, _∙_}
-use mathlib.Core.Bool.{Bool, true, false}
+use mathlib.Core.Path.{_≡_, refl, ap, subst, _∙_}
+use mathlib.Core.Bool.{Bool, true}
 use mathlib.Core.List.{List, [], _∷_, _++_}
 use mathlib.Core.Option.{Option, none, some}
 use Prim.Native.Nat.{ℕ, _<_}
 use native.Mathlib.Omega.{arith}
-use borrow.Author.Tests.{eqb-true, le-ltb}
+use borrow.Author.Tests.{le-ltb}
 use lib.Dec.{eqb}
 use Rattle.words.specs.Below.{pick}
 use Rattle.words.proofs.Below.{by-test}
-use Rattle.catalogue.specs.Plain.{Row, catalogue}
+use Rattle.catalogue.specs.Plain.{catalogue}
 use Rattle.restriction.specs.Reader.{restriction}
 use Rattle.select.specs.Select.{selectedBy}
-use Rattle.sessions.specs.Layout.{seats, blockOf}
+use Rattle.sessions.specs.Layout.{seats}
 use Rattle.sessions.specs.Seat.{Seat, seatBlock, seatOf, fresh, opened}
 use Rattle.sessions.specs.Fits.{SeatOk}
 use Rattle.sessions.specs.Well.{tableWell}
@@ -25,7 +25,7 @@ use Rattle.messages.specs.Message.{seatMessage}
 use Rattle.messages.proofs.Bodies.{with-fits}
 use Rattle.messages.proofs.Keeping.{message-fits}
 use Rattle.opening.specs.Open.{freeHandle, openCauses, openedOn}
-use Rattle.server.specs.Step.{Sources, sourcesOf, Outcome, rowsHold, judging, seatHeld, isConnected, seated, sizing, connectCauses, connectStep, messageStep, openDone, openStep}
+use Rattle.server.specs.Step.{Sources, sourcesOf, Outcome, judging, seatHeld, isConnected, seated, sizing, connectStep, messageStep, openDone, openStep}
 use Rattle.server.proofs.Causes.{judging-numbered}
 use Rattle.server.proofs.Passing.{Passing, selected-fits}
 use Rattle.server.proofs.Seating.{seat-ok}

@@ -2,42 +2,42 @@
 -- since its opening, its selection the one that its opening made. Assumes nothing.
 use mathlib.Core.Path.{_≡_, refl, sym, ap, subst, _∙_}
 use mathlib.Core.Bool.{Bool, true, false, not}
-use mathlib.Core.List.{List, [], _∷_, _++_}
+use mathlib.Core.List.{List, [], _∷_}
 use mathlib.Core.Logic.{_⊎_, inl, inr, ⊎-elim}
 use mathlib.Core.Option.{Option, none, some}
-use Prim.Native.Nat.{ℕ, _+_, _≤_, _<_}
+use Prim.Native.Nat.{ℕ, _+_, _<_}
 use native.Mathlib.Omega.{arith}
 use borrow.Author.Tests.{eq-eqb, ne-eqb, eqb-true, eqb-false}
 use lib.Dec.{eqb}
 use lib.ListN.{length}
-use Rattle.words.specs.Below.{pick, both, everyBelow}
+use Rattle.words.specs.Below.{pick, both}
 use Rattle.words.specs.Word.{numberAt}
 use Rattle.words.proofs.Below.{by-test, true≢false}
-use Rattle.catalogue.specs.Plain.{Row, catalogue}
+use Rattle.catalogue.specs.Plain.{Row}
 use Rattle.bindings.specs.Bindings.{Bindings}
 use Rattle.bindings.specs.Plain.{bindings}
 use Rattle.restriction.specs.Reader.{restriction}
 use Rattle.restriction.specs.Answer.{isTree}
 use Rattle.select.specs.Select.{selectedBy}
 use Rattle.sessions.specs.Layout.{seats}
-use Rattle.sessions.specs.Seat.{Cursor, Seat, cursorIn, withCursor, opened, rebound, moved, fresh}
+use Rattle.sessions.specs.Seat.{Cursor, Seat, cursorIn, withCursor, opened, rebound, moved}
 use Rattle.sessions.specs.Fits.{SeatOk}
 use Rattle.refusals.specs.Refusal.{firstCause}
-use Rattle.refusals.proofs.First.{first-both, Numbered}
+use Rattle.refusals.proofs.First.{first-both}
 use Rattle.requests.specs.Request.{request}
 use Rattle.requests.specs.declared.Request.{Request}
 use Rattle.fetching.specs.Fetch.{sent, fetchReply, fetched}
 use Rattle.fetching.specs.Ready.{rowsOf}
-use Rattle.messages.specs.Message.{msgOf, handleOf, kindOf, kindFrom, served, isOpen, unread, unfit, freed, boundTo, checksumWrong, gateCauses, bodyCauses, bodyOf, seatCauses, rowsDone, doneOn, doneBy, seatMessage}
+use Rattle.messages.specs.Message.{msgOf, handleOf, kindOf, kindFrom, served, isOpen, unread, unfit, boundTo, gateCauses, bodyCauses, bodyOf, seatCauses, rowsDone, doneOn, seatMessage}
 use Rattle.messages.proofs.Answering.{gate-numbered}
-use Rattle.opening.specs.Open.{freeHandle, openCauses, openedOn}
-use Rattle.server.specs.Step.{Sources, sourcesOf, seatHeld, isConnected, sizing}
+use Rattle.opening.specs.Open.{freeHandle}
+use Rattle.server.specs.Step.{Sources, sourcesOf, seatHeld, sizing}
 use Rattle.server.proofs.Seating.{seat-ok}
-use Rattle.promises.specs.Calls.{Call, connecting, opening, messaging, seatOfCall, step, Answer, answerOf, Event, history, after, freshTable}
-use Rattle.promises.specs.Told.{carriedOn, boundOn, afterNamed, afterMessage, accepted, afterCall, cursorTold, cursorBy, heldCursor}
+use Rattle.promises.specs.Calls.{Call, connecting, opening, messaging, seatOfCall, step, Answer, answerOf, history, after}
+use Rattle.promises.specs.Told.{carriedOn, boundOn, afterMessage, accepted, afterCall, cursorTold, cursorBy, heldCursor}
 use Rattle.promises.proofs.Refusals.{accepted-passes, seat-refusal}
 use Rattle.promises.proofs.Unchanged.{refused-leaves}
-use Rattle.promises.proofs.Alone.{taken, told, ownOpen, ownMessage, ownStep, step-alone}
+use Rattle.promises.proofs.Alone.{ownStep, step-alone}
 use Rattle.promises.proofs.Isolated.{others-left}
 use Rattle.promises.proofs.Served.{fetching, count-read}
 

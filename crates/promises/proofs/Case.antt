@@ -1,13 +1,11 @@
 -- The whole case: four calls from the fresh table to the 512 bytes, by computation over the calls' own seat. Assumes nothing.
-use mathlib.Core.Path.{_≡_, refl, sym, ap, ap₂, subst, _∙_}
+use mathlib.Core.Path.{_≡_, refl, sym, ap, ap₂, _∙_}
 use mathlib.Core.List.{List, [], _∷_}
 use mathlib.Core.Option.{Option, none, some}
 use Prim.Native.Nat.{ℕ, _<_}
 use native.Mathlib.Omega.{arith}
 use Rattle.words.specs.Below.{everyBelow}
-use Rattle.words.specs.Word.{number, numberAt, le, halves}
-use Rattle.numbers.specs.Groups as Groups
-use Rattle.catalogue.specs.Plain.{text, row, rows, catalogue}
+use Rattle.words.specs.Word.{number, numberAt, le}
 use Rattle.catalogue.specs.Writer.{unitBytes}
 use Rattle.catalogue.proofs.Vectors.{caseBytes, caseRows, case-parses}
 use Rattle.columns.specs.Each.{every, pairwise}
@@ -31,7 +29,7 @@ use Rattle.messages.specs.Message.{kindFrom, seatMessage}
 use Rattle.server.specs.Step.{Sources, sourcesOf, seatHeld}
 use Rattle.server.proofs.Passing.{Passing}
 use Rattle.promises.specs.Calls.{Call, seatOfCall, step, Answer, Event, history, freshTable}
-use Rattle.promises.specs.Case.{event, caseCalls, caseEvents}
+use Rattle.promises.specs.Case.{caseCalls, caseEvents}
 use Rattle.promises.proofs.Reached.{step-passes, fresh-seat, fresh-passes}
 use Rattle.promises.proofs.Alone.{ownStep, step-alone}
 

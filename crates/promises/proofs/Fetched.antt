@@ -1,14 +1,13 @@
 -- Over any calls: the rows of a cursor's replies are the first rows of the selection that its opening made, and an accepted request
 -- for rows carries the next ones. Assumes nothing.
 use mathlib.Core.Path.{_≡_, refl, sym, ap, subst, _∙_}
-use mathlib.Core.Bool.{true, false}
-use mathlib.Core.List.{List, [], _∷_, _++_}
+use mathlib.Core.Bool.{true}
+use mathlib.Core.List.{List, [], _++_}
 use mathlib.Core.Option.{Option, none, some}
-use Prim.Native.Nat.{ℕ, _+_, _*_, _≤_, _<_}
+use Prim.Native.Nat.{ℕ, _<_}
 use native.Mathlib.Omega.{arith}
-use borrow.Author.Tests.{eqb-true, eqb-false, eq-eqb}
+use borrow.Author.Tests.{eqb-false, eq-eqb}
 use lib.Dec.{eqb}
-use lib.ListN.{length, take}
 use Rattle.words.proofs.Below.{by-test}
 use Rattle.catalogue.specs.Plain.{Row, catalogue}
 use Rattle.columns.specs.Fit.{fit}

@@ -1,14 +1,13 @@
 -- The rows of a cursor's replies joined are the first rows of its selection, each once. Assumes nothing.
 use mathlib.Core.Path.{_≡_, refl, sym, ap, _∙_}
-use mathlib.Core.Bool.{Bool, true, false}
 use mathlib.Core.List.{List, [], _∷_, _++_}
 use mathlib.Core.Option.{Option, none, some}
 use Prim.Native.Nat.{ℕ, _+_}
 use borrow.Author.Tests.{eq-eqb}
 use lib.Dec.{eqb}
-use lib.ListN.{take, drop}
+use lib.ListN.{take}
 use lib.Seq.{take-add}
-use Rattle.words.specs.Below.{pick, both}
+use Rattle.words.specs.Below.{both}
 use Rattle.words.proofs.Below.{by-test}
 use Rattle.bindings.specs.Bindings.{Bindings}
 use Rattle.bindings.specs.Plain.{bindings}

@@ -1,5 +1,5 @@
 -- The table of numbers holds, by computation. Assumes nothing.
-use mathlib.Core.Path.{_≡_, refl}
+use mathlib.Core.Path.{refl}
 use native.Mathlib.Omega.{arith}
 use Rattle.words.specs.Below.{someBelow, everyBelow}
 use Rattle.words.specs.Word.{number, numberAt, le}

@@ -4,12 +4,11 @@ use mathlib.Core.Bool.{true, false}
 use mathlib.Core.List.{List, _++_}
 use mathlib.Core.Logic.{_⊎_, inl, inr}
 use mathlib.Core.Option.{Option, none, some}
-use Prim.Native.Nat.{ℕ, _<_}
+use Prim.Native.Nat.{ℕ}
 use native.Mathlib.Omega.{arith}
-use borrow.Author.Tests.{eqb-true, eq-eqb}
+use borrow.Author.Tests.{eq-eqb}
 use lib.Dec.{eqb}
 use Rattle.words.proofs.Below.{by-test, true≢false}
-use Rattle.words.proofs.Options.{none≢some}
 use Rattle.catalogue.specs.Plain.{Row, catalogue}
 use Rattle.restriction.specs.Tree.{Tree}
 use Rattle.restriction.specs.Reader.{restriction}

@@ -1,21 +1,21 @@
 -- Every table that calls reach from the fresh one passes refusals 2 and 3. Assumes nothing.
-use mathlib.Core.Path.{_≡_, refl, sym, ap, subst, _∙_}
-use mathlib.Core.Bool.{true, false}
-use mathlib.Core.List.{List, [], _∷_}
+use mathlib.Core.Path.{_≡_, refl, sym, ap, _∙_}
+use mathlib.Core.Bool.{true}
+use mathlib.Core.List.{List, [], _∷_, _++_}
 use mathlib.Core.Option.{Option, none, some}
-use Prim.Native.Nat.{ℕ, _<_}
+use Prim.Native.Nat.{ℕ, _+_, _-_, _<_}
 use native.Mathlib.Omega.{arith}
+use borrow.Author.Tests.{eq-eqb}
 use lib.Dec.{eqb}
-use lib.ListN.{length, getD-replicate}
-use borrow.Author.Tests.{eqb-true, eqb-false}
-use Rattle.words.specs.Below.{everyBelow}
-use Rattle.words.proofs.Below.{by-test, true≢false, every-shown}
+use lib.ListN.{length, take, replicate, length-replicate, replicate-append-replicate}
+use lib.Seq.{take-at, drop-at}
+use Rattle.words.proofs.Below.{true≢false, both-true, every-shown}
 use Rattle.catalogue.specs.Plain.{Row, catalogue}
-use Rattle.sessions.specs.Layout.{seats, seatAt, tableSize}
-use Rattle.sessions.specs.Well.{seatWell, tableWell, tableBelow, seatBelow}
-use Rattle.sessions.specs.Seat.{seatOf, seatBlock}
+use Rattle.sessions.specs.Layout.{seats, seatSize, seatAt, tableSize, part, blockOf}
+use Rattle.sessions.specs.Seat.{seatBlock, seatOf}
+use Rattle.sessions.specs.Well.{seatWell, tableWell, seatBelow, tableBelow}
+use Rattle.sessions.proofs.Seats.{seat-block}
 use Rattle.server.specs.Step.{Sources, sourcesOf, rowsHold, seatHeld}
-use Rattle.server.proofs.Seating.{held-none}
 use Rattle.server.proofs.Passing.{Passing, connect-passes, open-passes, message-passes}
 use Rattle.promises.specs.Calls.{Call, connecting, opening, messaging, step, after, freshTable}
 use Rattle.promises.proofs.Refusals.{accepted-passes}
@@ -43,18 +43,33 @@ malformed-after src t [] e = refl
 malformed-after src t (c ∷ calls) e =
     malformed-after src (step src t c .words) calls e ∙ refused-leaves src t c (malformed-refused src t c e) .words
 
--- the fresh table: every seat is unconnected
-pub fresh-well : tableWell freshTable ≡ true
-unfolding freshTable tableWell seatWell everyBelow
-fresh-well = refl
+-- the fresh table: every seat's words are zero, so it is unconnected
+part-zero : (total at n rest : ℕ) → total ≡ at + (n + rest) → part (replicate total 0) at n ≡ replicate n 0
+part-zero total at n rest e =
+    ap (λ (k : ℕ). part (replicate k 0) at n) e
+    ∙ ap (λ (t : List ℕ). part t at n)
+    (sym (replicate-append-replicate at (n + rest) 0) ∙ ap (λ (t : List ℕ). replicate at 0 ++ t) (sym (replicate-append-replicate n rest 0)))
+    ∙ ap (take n) (drop-at (replicate at 0) (replicate n 0 ++ replicate rest 0) at (length-replicate at 0))
+    ∙ take-at (replicate n 0) (replicate rest 0) n (length-replicate n 0)
+
+zero-block : (seat : ℕ) → seat < seats → blockOf freshTable seat ≡ seatBlock none
+unfolding freshTable
+zero-block seat h = part-zero tableSize (seatAt seat) seatSize (tableSize - (seatAt seat + seatSize)) (omega arith)
 
 pub fresh-seat : (seat : ℕ) → seat < seats → seatHeld freshTable seat ≡ none
-unfolding freshTable
-fresh-seat seat h = held-none freshTable fresh-well seat h (getD-replicate tableSize (seatAt seat) 0 0 (omega arith))
+fresh-seat seat h = ap seatOf (zero-block seat h) ∙ seat-block none tt .held
+
+pub fresh-well : tableWell freshTable ≡ true
+unfolding tableWell freshTable
+fresh-well =
+    both-true (eqb (length freshTable) tableSize) _
+    (eq-eqb (length freshTable) tableSize (length-replicate {A = ℕ} tableSize 0))
+    (every-shown seats (λ seat. seatWell (blockOf freshTable seat)) (λ seat h. ap seatWell (zero-block seat h) ∙ seat-block none tt .well))
 
 pub fresh-below : (bound : ℕ) → tableBelow bound freshTable ≡ true
-unfolding freshTable tableBelow everyBelow
-fresh-below bound = refl
+unfolding tableBelow
+fresh-below bound =
+    every-shown seats (λ seat. seatBelow bound (seatOf (blockOf freshTable seat))) (λ seat h. ap (seatBelow bound) (fresh-seat seat h))
 
 pub fresh-passes : (s : List ℕ) (rows : List Row) → catalogue s ≡ some rows → Passing (sourcesOf s) freshTable
 fresh-passes s rows e =

@@ -4,15 +4,14 @@ use mathlib.Core.Path.{_≡_, refl, sym, ap, ap₂, subst, _∙_}
 use mathlib.Core.Bool.{true}
 use mathlib.Core.List.{List, [], _∷_, map}
 use mathlib.Core.Logic.{_↔_, _⊎_, inl, inr}
-use mathlib.Core.Option.{Option, none, some}
-use Prim.Native.Nat.{ℕ, zero, suc, _+_, _-_, _*_, _^_, _≤_, _<_}
+use mathlib.Core.Option.{none, some}
+use Prim.Native.Nat.{ℕ, zero, suc, _+_, _*_, _≤_, _<_}
 use native.Mathlib.Nat.{not-suc-le-zero, le-of-suc-le-suc}
 use native.Mathlib.Omega.{arith}
-use borrow.Author.Tests.{eqb-true, eqb-false, eq-eqb}
+use borrow.Author.Tests.{eqb-true, eqb-false}
 use lib.Dec.{eqb}
 use lib.ListN.{length, getD, take, drop, replicate, length-map, length-drop, length-replicate}
 use lib.Seq.{length-take-le, getD-take, getD-drop}
-use Rattle.words.specs.Word.{numberAt}
 use Rattle.words.proofs.Below.{by-test}
 use Rattle.words.proofs.Options.{none≢some, some-is}
 use Rattle.catalogue.specs.Plain.{Row, catalogue}
@@ -20,10 +19,7 @@ use Rattle.catalogue.specs.Places.{places, rowSeen}
 use Rattle.catalogue.proofs.Agree.{accepted, catalogue-agrees}
 use Rattle.columns.specs.Fit.{fit}
 use Rattle.columns.specs.Sound.{column}
-use Rattle.columns.specs.declared.Column.{Column}
 use Rattle.cells.specs.Field.{fieldOf}
-use Rattle.spans.specs.Each.{Each}
-use Rattle.spans.specs.Laid.{Outside}
 use Rattle.sessions.specs.Seat.{Cursor}
 use Rattle.sessions.specs.Fits.{CursorFits}
 use Rattle.requests.specs.Request.{Sound}
@@ -33,9 +29,9 @@ use Rattle.rows.specs.Reads.{rowIn, rowPlace, blockPlace, Held, Reads, HeadRead
 use Rattle.rows.proofs.Head.{held-seen}
 use Rattle.rows.proofs.ReadBack.{reads-back}
 use Rattle.rows.proofs.Reply.{page-inside, page-clear, page-zero, bytes-length}
-use Rattle.fetching.specs.Fetch.{numbered, remaining, sent, rowsSent, thenLeft, fetchReply}
-use Rattle.promises.specs.Rows.{countIn, statusIn, pageNumbers, pageRows, spansIn, RowsReply}
-use Rattle.promises.proofs.Served.{bytes-are, inside, greatest, sent-most, sent-count, room, reply-head, count-read, status-read}
+use Rattle.fetching.specs.Fetch.{remaining, sent, rowsSent, thenLeft, fetchReply}
+use Rattle.promises.specs.Rows.{countIn, statusIn, pageNumbers, pageRows, RowsReply}
+use Rattle.promises.proofs.Served.{bytes-are, inside, greatest, sent-most, room, reply-head, count-read, status-read}
 
 -- the rows of the first k numbers are the first k rows; the j-th row is that of the j-th number
 map-taken : (f : ℕ → Row) (l : List ℕ) (k : ℕ) → map f (take k l) ≡ take k (map f l)

@@ -1,36 +1,34 @@
 -- A request for rows that is accepted: its cursor, its values, and the words of its reply. Assumes nothing.
 use mathlib.Core.Path.{_≡_, refl, sym, ap, subst, _∙_}
-use mathlib.Core.Bool.{Bool, true, false, not}
+use mathlib.Core.Bool.{true, false, not}
 use mathlib.Core.List.{List, [], _∷_, _++_, append-nil}
 use mathlib.Core.Logic.{⊎-elim}
 use mathlib.Core.Option.{Option, none, some}
-use Prim.Native.Nat.{ℕ, _+_, _-_, _*_, _^_, _≤_, _<_}
+use Prim.Native.Nat.{ℕ, _+_, _*_, _^_, _≤_, _<_}
 use native.Mathlib.Omega.{arith}
 use borrow.Author.Tests.{eq-eqb, eqb-true}
 use lib.Dec.{eqb}
-use lib.ListN.{length, take, drop, replicate, length-replicate, drop-of-length-le}
+use lib.ListN.{length, replicate, length-replicate, drop-of-length-le}
 use lib.Seq.{length-take-le}
 use Rattle.words.specs.Word.{numberAt}
 use Rattle.words.proofs.Below.{by-test, true≢false}
-use Rattle.words.proofs.Options.{none≢some}
 use Rattle.catalogue.specs.Plain.{Row}
 use Rattle.columns.specs.Fit.{fit}
 use Rattle.columns.specs.declared.Column.{Column}
 use Rattle.sessions.specs.Seat.{Cursor, Seat, cursorIn}
 use Rattle.sessions.specs.Fits.{CursorFits, CursorOk, SeatOk}
 use Rattle.refusals.specs.Refusal.{firstCause}
-use Rattle.refusals.proofs.First.{first-both}
 use Rattle.requests.specs.Request.{request, Sound}
 use Rattle.requests.specs.declared.Request.{Request}
 use Rattle.requests.proofs.Ranges.{request-sound}
-use Rattle.rows.specs.Page.{allBlocks, pageBytes, page, statusFor, endOfRows}
+use Rattle.rows.specs.Page.{allBlocks, pageBytes, page, statusFor}
 use Rattle.rows.specs.Reads.{HeadReads}
 use Rattle.rows.proofs.Greatest.{Greatest, returned-is, returned-room}
 use Rattle.rows.proofs.Head.{head-reads}
 use Rattle.rows.proofs.Reply.{page-is}
-use Rattle.fetching.specs.Fetch.{remaining, unbound, widthDiffers, firstUnfit, earlyCauses, fetchCauses, sent, rowsSent, thenLeft, fetchReply}
+use Rattle.fetching.specs.Fetch.{remaining, unbound, sent, rowsSent, thenLeft, fetchReply}
 use Rattle.fetching.proofs.Sending.{sent-left, sound-inside}
-use Rattle.messages.specs.Message.{handleOf, isOpen, unasked, notOpen, rowsCauses, bodyCauses}
+use Rattle.messages.specs.Message.{handleOf, isOpen, unasked, rowsCauses, bodyCauses}
 
 -- the cursors of a seat that fits
 pub cursor-ok : (s : Seat) (handle : ℕ) → SeatOk (some s) → CursorOk (cursorIn s handle)

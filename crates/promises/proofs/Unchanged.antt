@@ -1,19 +1,18 @@
 -- "No refusal changes the table", and what it writes, for every call. Assumes nothing.
-use mathlib.Core.Path.{_≡_, refl, sym, ap, _∙_}
+use mathlib.Core.Path.{_≡_, refl}
 use mathlib.Core.List.{List, [], _++_}
 use mathlib.Core.Option.{Option, none, some}
-use Prim.Native.Nat.{ℕ, _≤_, _<_}
+use Prim.Native.Nat.{ℕ}
 use native.Mathlib.Omega.{arith}
 use borrow.Author.Tests.{eqb-true, lt-ltb, le-ltb}
-use lib.Dec.{ltb, eqb}
+use lib.Dec.{eqb}
 use Rattle.words.proofs.Below.{by-test}
 use Rattle.catalogue.specs.Plain.{Row}
 use Rattle.sessions.specs.Seat.{Seat}
-use Rattle.spans.specs.Laid.{fourWords}
-use Rattle.refusals.specs.Refusal.{firstCause, statusOf}
+use Rattle.refusals.specs.Refusal.{firstCause}
 use Rattle.refusals.proofs.First.{first-under}
 use Rattle.fetching.specs.Ready.{rowsOf}
-use Rattle.messages.specs.Message.{msgOf, seatCauses, doneBy, seatMessage}
+use Rattle.messages.specs.Message.{seatCauses, seatMessage}
 use Rattle.opening.specs.Open.{openCauses}
 use Rattle.server.specs.Step.{Sources, judging, seatHeld, sizing, connectCauses, connectStep, messageStep, openDone, openStep}
 use Rattle.server.proofs.Unchanged.{connect-unchanged, open-unchanged, message-unchanged}

@@ -6,7 +6,7 @@ use Rattle.words.proofs.Vectors.{wordsOf}
 use Rattle.spans.specs.Laid.{fourWords}
 use Rattle.restriction.proofs.Vectors.{spec, related}
 use Rattle.rows.proofs.Vectors.{caseReply}
-use Rattle.promises.specs.Calls.{Call, connecting, opening, messaging, Answer, Event}
+use Rattle.promises.specs.Calls.{Call, connecting, opening, messaging, Event}
 use Rattle.promises.specs.Numbers.{getRows}
 
 abbrev pub event : Call → ℕ → ℕ → List ℕ → Event
