@@ -10,6 +10,7 @@ pub mod Carried
 pub mod Joined
 pub mod Fetched
 pub mod Opened
+pub mod Done
 pub mod Numbers
 pub mod Case
 pub mod Kept

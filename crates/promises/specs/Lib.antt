@@ -4,5 +4,6 @@ pub mod Told
 pub mod Own
 pub mod Rows
 pub mod Opens
+pub mod Done
 pub mod Numbers
 pub mod Case
