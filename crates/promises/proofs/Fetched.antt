@@ -4,16 +4,17 @@ use mathlib.Core.Path.{_≡_, refl, sym, ap, subst, _∙_}
 use mathlib.Core.Bool.{true}
 use mathlib.Core.List.{List, [], _++_}
 use mathlib.Core.Option.{Option, none, some}
-use Prim.Native.Nat.{ℕ, _<_}
+use Prim.Native.Nat.{ℕ, _≤_, _<_}
 use native.Mathlib.Omega.{arith}
 use borrow.Author.Tests.{eqb-false, eq-eqb}
 use lib.Dec.{eqb}
+use lib.ListN.{length}
 use Rattle.words.proofs.Below.{by-test}
 use Rattle.catalogue.specs.Plain.{Row, catalogue}
 use Rattle.columns.specs.Fit.{fit}
 use Rattle.sessions.specs.Layout.{seats}
 use Rattle.sessions.specs.Seat.{Cursor, Seat, cursorIn}
-use Rattle.sessions.specs.Fits.{CursorFits, SeatOk}
+use Rattle.sessions.specs.Fits.{Rising, CursorFits, CursorOk, SeatOk}
 use Rattle.refusals.specs.Refusal.{firstCause}
 use Rattle.requests.specs.Request.{request, Sound}
 use Rattle.requests.specs.declared.Request.{Request}
@@ -24,10 +25,10 @@ use Rattle.server.specs.Step.{Sources, sourcesOf, judging, seatHeld, sizing, me
 use Rattle.server.proofs.Seating.{seat-ok}
 use Rattle.promises.specs.Calls.{Call, messaging, step, answerOf, history, after, freshTable}
 use Rattle.promises.specs.Told.{cursorTold, cursorBy, heldCursor}
-use Rattle.promises.specs.Rows.{rowsTold, firstRows, RowsReply, Carries}
+use Rattle.promises.specs.Rows.{rowsTold, firstRows, RowsReply, Sends, Carries}
 use Rattle.promises.proofs.Refusals.{seat-refusal, accepted-passes}
-use Rattle.promises.proofs.Reached.{fresh-seat}
-use Rattle.promises.proofs.Served.{fetching}
+use Rattle.promises.proofs.Reached.{fresh-seat, reached-well}
+use Rattle.promises.proofs.Served.{cursor-ok, fetching}
 use Rattle.promises.proofs.Replies.{rows-held, reply-is}
 use Rattle.promises.proofs.Carried.{Handle, open-handle, accepted-kind, after-told}
 use Rattle.promises.proofs.Joined.{joined-first, page-further}
@@ -99,6 +100,27 @@ by-seat src t seat m room =
     (λ q. rw q (λ z. (sym (seat-refusal (rowsOf (src .rows)) (seatHeld t seat) m) ∙ z, refl)))
     (λ q. rw q (λ z. absurd (eqb-false (firstCause (judging src t seat ++ sizing m room)) 0 q z)))
 
+-- demand 2: the reply to an accepted request for rows, in any table
+pub sends : (s : List ℕ) (rows : List Row) → catalogue s ≡ some rows → (t : List ℕ) (seat : ℕ) (m : List ℕ) (room : ℕ)
+    → step (sourcesOf s) t (messaging seat m room) .refusal ≡ 0 → msgOf m ≡ 0xCC
+    → Sends rows t seat m (step (sourcesOf s) t (messaging seat m room) .reply) × Handle (handleOf m)
+sends s rows e t seat m room z g =
+    let a = accepted-passes (sourcesOf s) t (messaging seat m room) z in
+    let b = by-seat (sourcesOf s) t seat m room z in
+    let v = seat-served (rowsOf (catalogue s)) (seatHeld t seat) m (seat-ok t (a .table-in) seat (a .seat-in)) (b .0) g in (
+      record {
+        cursor = v .cursor;
+        asked = v .asked;
+        held = v .holds;
+        body = v .body;
+        says =
+            subst (RowsReply rows (v .cursor) (v .asked))
+            (sym (b .1 ∙ v .reply ∙ ap (λ (o : Option (List Row)). fetchReply (rowsOf o) (v .cursor) (v .asked)) e))
+            (reply-is rows (rows-held s rows e) (v .cursor) (v .asked) (v .fits) (v .bound) (v .sound));
+      },
+      v .handle,
+    )
+
 -- demand 3: after any calls of all seats, an accepted request for rows carries the next rows of the selection that the cursor's opening
 -- made, and says the end exactly where all are then carried
 pub carries : (s : List ℕ) (rows : List Row) → catalogue s ≡ some rows → (calls : List Call) (seat : ℕ) (m : List ℕ) (room : ℕ)
@@ -107,21 +129,31 @@ pub carries : (s : List ℕ) (rows : List Row) → catalogue s ≡ some rows →
     → Carries (sourcesOf s) rows (history (sourcesOf s) freshTable calls) seat m room (answerOf (step (sourcesOf s) t (messaging seat m room)))
 carries s rows e calls seat m room z g =
     let t = after (sourcesOf s) freshTable calls in
-    let a = accepted-passes (sourcesOf s) t (messaging seat m room) z in
-    let b = by-seat (sourcesOf s) t seat m room z in
-    let v = seat-served (rowsOf (catalogue s)) (seatHeld t seat) m (seat-ok t (a .table-in) seat (a .seat-in)) (b .0) g in
-    let cursor : cursorTold (sourcesOf s) seat (handleOf m) none (history (sourcesOf s) freshTable calls) ≡ some (v .cursor)
-    = sym (told s calls seat (handleOf m) (a .seat-in) (v .handle)) ∙ v .holds in
+    let events = history (sourcesOf s) freshTable calls in
+    let h = accepted-passes (sourcesOf s) t (messaging seat m room) z .seat-in in
+    let v = sends s rows e t seat m room z g in
+    let cursor : cursorTold (sourcesOf s) seat (handleOf m) none events ≡ some (v .0 .cursor)
+    = sym (told s calls seat (handleOf m) h (v .1)) ∙ v .0 .held in
     record {
-      cursor = v .cursor;
-      asked = v .asked;
+      cursor = v .0 .cursor;
+      asked = v .0 .asked;
       told = cursor;
-      body = v .body;
-      before = joined-first (sourcesOf s) seat (handleOf m) none (history (sourcesOf s) freshTable calls) ∙ ap firstRows cursor;
-      says =
-          subst (RowsReply rows (v .cursor) (v .asked))
-          (sym (b .1 ∙ v .reply ∙ ap (λ (o : Option (List Row)). fetchReply (rowsOf o) (v .cursor) (v .asked)) e))
-          (reply-is rows (rows-held s rows e) (v .cursor) (v .asked) (v .fits) (v .bound) (v .sound));
-      joined =
-          page-further (sourcesOf s) (history (sourcesOf s) freshTable calls) seat m room (answerOf (step (sourcesOf s) t (messaging seat m room))) (v .cursor) z g cursor;
+      body = v .0 .body;
+      before = joined-first (sourcesOf s) seat (handleOf m) none events ∙ ap firstRows cursor;
+      says = v .0 .says;
+      joined = page-further (sourcesOf s) events seat m room (answerOf (step (sourcesOf s) t (messaging seat m room))) (v .0 .cursor) z g cursor;
     }
+
+-- a cursor that is told has carried no more rows than its selection has, and no row stands in its selection twice
+pub told-fits : (s : List ℕ) (calls : List Call) (seat handle : ℕ) → seat < seats → Handle handle → (c : Cursor)
+    → cursorTold (sourcesOf s) seat handle none (history (sourcesOf s) freshTable calls) ≡ some c
+    → (c .position ≤ length (c .selection)) × Rising (c .selection)
+told-fits s calls seat handle h n c e =
+    let t = after (sourcesOf s) freshTable calls in
+    let f : CursorFits c
+    = subst CursorOk (told s calls seat handle h n ∙ e) (held-ok (seatHeld t seat) (seat-ok t (reached-well s calls) seat h)) in
+    (f .position, f .rising)
+  where
+    held-ok : (o : Option Seat) → SeatOk o → CursorOk (cursorBy o handle)
+    held-ok none w = tt
+    held-ok (some k) w = cursor-ok k handle w

@@ -22,7 +22,7 @@ use Rattle.fetching.specs.Fetch.{numbered, remaining}
 use Rattle.messages.specs.Message.{msgOf, handleOf}
 use Rattle.server.specs.Step.{Sources}
 use Rattle.promises.specs.Calls.{Call, connecting, opening, messaging, Answer, Event}
-use Rattle.promises.specs.Told.{accepted, afterCall, cursorTold}
+use Rattle.promises.specs.Told.{accepted, afterCall, cursorTold, heldCursor}
 
 -- "_cRowsReturned" and the status, as the reply's bytes say them
 abbrev pub countIn : List ℕ → ℕ
@@ -68,6 +68,14 @@ pub record RowsReply (rows : List Row) (c : Cursor) (q : Request) (reply : List 
   pub inside : Each (Inside (q .size)) (spansIn rows c q reply)
   pub clear : Pairwise Clear (spansIn rows c q reply)
   pub zero : (i : ℕ) → i < q .size → Each (Outside i) (spansIn rows c q reply) → getD reply i 0 ≡ 0
+
+-- an accepted request for rows in any table: the cursor that the table holds under its handle, and what its reply says
+pub record Sends (rows : List Row) (t : List ℕ) (seat : ℕ) (m reply : List ℕ) : Type 0 where
+  pub cursor : Cursor
+  pub asked : Request
+  pub held : heldCursor t seat (handleOf m) ≡ some cursor
+  pub body : request m ≡ some asked
+  pub says : RowsReply rows cursor asked reply
 
 -- the row numbers of a cursor's replies joined, from its opening on: an opening that was given the handle starts anew, free cursor and
 -- disconnect end it
