@@ -68,7 +68,7 @@ pub places-noted : (s t held found : List ℕ) (seat : ℕ) (r : Judged) → Jud
 places-noted s t held found seat r j z h l =
     subst (λ (n : ℕ). Noted s n found) (sym (j .rows z)) (noted-by-check s held found (checked s) refl (rows-accepted s t h) (j .placed z) l)
 
-closed : (o : Option Cursor) → isOpen o ≡ false → o ≡ none
+pub closed : (o : Option Cursor) → isOpen o ≡ false → o ≡ none
 closed none e = refl
 closed (some c) e = absurd (true≢false e)
 

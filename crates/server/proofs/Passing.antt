@@ -114,7 +114,7 @@ rows-length s rows e =
     absurd (none≢some (sym seen ∙ e)))
 
 -- a cursor on a selection fits, and its rows are below the catalogue's count
-selected-fits : (s : List ℕ) (tree : Option Tree) (rows : Option (List Row)) → catalogue s ≡ rows → CursorFits (opened (selectedBy tree rows))
+pub selected-fits : (s : List ℕ) (tree : Option Tree) (rows : Option (List Row)) → catalogue s ≡ rows → CursorFits (opened (selectedBy tree rows))
 unfolding every
 selected-fits s none rows e =
     record { position = omega arith; rows = omega arith; rising = λ i h. absurd (omega (arith, h)); bound = inl (refl, refl); tidied = refl }

@@ -28,14 +28,16 @@ lay-four-requires c κs = search needs
 
 lay-rows-requires : tie.Need-lay-rows-requires
 lay-rows-requires c κs = let a = c .before .before .before .before .before .before .before .before .before .before .before .before .before .before .before .before .before .before .args in let p = c .before .before .before .before .before .before .before .before .before .before .before .before .before .before .before .before .before .before .pre .0 in
-    let rows = rowsAt (a .s .now) (a .places .now) (a .numbers .now) in
-    (record {
-      given = record { long = p .long; few = bound-few (a .width) (a .bound) (a .words .now) (p .fits) };
-      columns = bound-in (a .width) (a .bound) (a .words .now) (p .fits);
-      room = omega (arith, p .room, needs-are (a .width) (columnsOf (a .bound) (a .words .now)) rows);
-      ends = omega (arith, p .ends, c .before .before .before .lay-four .kept .0, c .before .before .before .before .before .before .before .lay-header .kept .0, c .before .before .before .before .before .before .before .before .before .before .before .clear-first .kept .0);
-      offset = p .offset;
-    }, c .before .before .before .before .before .before .before .before .before .before .before .before .before .before .before .before .before .before .pre .1)
+    let rows = rowsAt (a .s .now) (a .places .now) (a .numbers .now) in (
+      record {
+        given = record { long = p .long; few = bound-few (a .width) (a .bound) (a .words .now) (p .fits) };
+        columns = bound-in (a .width) (a .bound) (a .words .now) (p .fits);
+        room = omega (arith, p .room, needs-are (a .width) (columnsOf (a .bound) (a .words .now)) rows);
+        ends = omega (arith, p .ends, c .before .before .before .lay-four .kept .0, c .before .before .before .before .before .before .before .lay-header .kept .0, c .before .before .before .before .before .before .before .before .before .before .before .clear-first .kept .0);
+        offset = p .offset;
+      },
+      c .before .before .before .before .before .before .before .before .before .before .before .before .before .before .before .before .before .before .pre .1,
+    )
 
 same-length : tie.Need-same-length
 same-length c = search needs

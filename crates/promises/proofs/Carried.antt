@@ -1,0 +1,274 @@
+-- Every cursor is what its seat's calls and their answers tell: its position is the count of the rows that its replies have carried
+-- since its opening, its selection the one that its opening made. Assumes nothing.
+use mathlib.Core.Path.{_≡_, refl, sym, ap, subst, _∙_}
+use mathlib.Core.Bool.{Bool, true, false, not}
+use mathlib.Core.List.{List, [], _∷_}
+use mathlib.Core.Logic.{_⊎_, inl, inr, ⊎-elim}
+use mathlib.Core.Option.{Option, none, some}
+use Prim.Native.Nat.{ℕ, _+_, _<_}
+use native.Mathlib.Omega.{arith}
+use borrow.Author.Tests.{eq-eqb, ne-eqb, eqb-true, eqb-false}
+use lib.Dec.{eqb}
+use lib.ListN.{length}
+use Rattle.words.specs.Below.{pick, both}
+use Rattle.words.specs.Word.{numberAt}
+use Rattle.words.proofs.Below.{by-test, true≢false}
+use Rattle.catalogue.specs.Plain.{Row}
+use Rattle.bindings.specs.Bindings.{Bindings}
+use Rattle.bindings.specs.Plain.{bindings}
+use Rattle.restriction.specs.Reader.{restriction}
+use Rattle.restriction.specs.Answer.{isTree}
+use Rattle.select.specs.Select.{selectedBy}
+use Rattle.sessions.specs.Layout.{seats}
+use Rattle.sessions.specs.Seat.{Cursor, Seat, cursorIn, withCursor, opened, rebound, moved}
+use Rattle.sessions.specs.Fits.{SeatOk}
+use Rattle.refusals.specs.Refusal.{firstCause}
+use Rattle.refusals.proofs.First.{first-both}
+use Rattle.requests.specs.Request.{request}
+use Rattle.requests.specs.declared.Request.{Request}
+use Rattle.fetching.specs.Fetch.{sent, fetchReply, fetched}
+use Rattle.fetching.specs.Ready.{rowsOf}
+use Rattle.messages.specs.Message.{msgOf, handleOf, kindOf, kindFrom, served, isOpen, unread, unfit, boundTo, gateCauses, bodyCauses, bodyOf, seatCauses, rowsDone, doneOn, seatMessage}
+use Rattle.messages.proofs.Answering.{gate-numbered}
+use Rattle.opening.specs.Open.{freeHandle}
+use Rattle.server.specs.Step.{Sources, sourcesOf, seatHeld, sizing}
+use Rattle.server.proofs.Seating.{seat-ok}
+use Rattle.promises.specs.Calls.{Call, connecting, opening, messaging, seatOfCall, step, Answer, answerOf, history, after}
+use Rattle.promises.specs.Told.{carriedOn, boundOn, afterMessage, accepted, afterCall, cursorTold, cursorBy, heldCursor}
+use Rattle.promises.proofs.Refusals.{accepted-passes, seat-refusal}
+use Rattle.promises.proofs.Unchanged.{refused-leaves}
+use Rattle.promises.proofs.Alone.{ownStep, step-alone}
+use Rattle.promises.proofs.Isolated.{others-left}
+use Rattle.promises.proofs.Served.{fetching, count-read}
+
+-- "handles 1 and 2"
+abbrev pub Handle : ℕ → Type 0
+Handle handle = (handle ≡ 1) ⊎ (handle ≡ 2)
+
+-- a cursor put under a handle, and what then stands under another
+with-in : (s : Seat) (h handle : ℕ) (o : Option Cursor) → Handle h → Handle handle
+    → cursorIn (withCursor s h o) handle ≡ pick (eqb h handle) o (cursorIn s handle)
+with-in s h handle o a b =
+    ⊎-elim
+    (λ (e : h ≡ 1). ⊎-elim (λ (f : handle ≡ 1). rw (e, f)) (λ (f : handle ≡ 2). rw (e, f)) b)
+    (λ (e : h ≡ 2). ⊎-elim (λ (f : handle ≡ 1). rw (e, f)) (λ (f : handle ≡ 2). rw (e, f)) b)
+    a
+
+-- a handle that is open is one of the two, and so is one that is free
+pub open-handle : (s : Seat) (h : ℕ) → isOpen (cursorIn s h) ≡ true → Handle h
+open-handle s h e =
+    by-test (eqb h 1)
+    (λ q. inl (eqb-true h 1 q))
+    (λ q. by-test (eqb h 2) (λ k. inr (eqb-true h 2 k)) (λ k. absurd (true≢false (sym (rw (q, k) at e)))))
+
+pub free-handle : (s : Seat) → eqb (freeHandle s) 0 ≡ false → Handle (freeHandle s)
+free-handle s e =
+    by-test (isOpen (s .first))
+    (λ q. by-test (isOpen (s .second)) (λ k. absurd (true≢false (rw (q, k) at e))) (λ k. rw (q, k) (inr refl)))
+    (λ q. rw q (inl refl))
+
+-- the four kinds by their numbers
+pub data Kind (msg : ℕ) : Type 0 where
+  leaves : eqb msg 0xC9 ≡ true → kindOf msg ≡ 0 → Kind msg
+  frees : eqb msg 0xC9 ≡ false → eqb msg 0xCB ≡ true → kindOf msg ≡ 1 → Kind msg
+  fetches : eqb msg 0xC9 ≡ false → eqb msg 0xCB ≡ false → eqb msg 0xCC ≡ true → kindOf msg ≡ 2 → Kind msg
+  binds : eqb msg 0xC9 ≡ false → eqb msg 0xCB ≡ false → eqb msg 0xCC ≡ false → kindOf msg ≡ 3 → Kind msg
+
+turned : (a b : ℕ) → eqb a b ≡ false → eqb b a ≡ false
+turned a b e = ne-eqb b a (λ w. eqb-false a b e (sym w))
+
+pub kind-of : (msg : ℕ) → served msg ≡ true → Kind msg
+unfolding kindFrom
+kind-of msg e =
+    by-test (eqb msg 0xC9)
+    (λ q. leaves q (ap kindOf (eqb-true msg 0xC9 q)))
+    (λ q.
+    by-test (eqb msg 0xCB)
+    (λ r. frees q r (ap kindOf (eqb-true msg 0xCB r)))
+    (λ r.
+    by-test (eqb msg 0xCC)
+    (λ l. fetches q r l (ap kindOf (eqb-true msg 0xCC l)))
+    (λ l.
+    by-test (eqb msg 0xD0)
+    (λ d. binds q r l (ap kindOf (eqb-true msg 0xD0 d)))
+    (λ d.
+    absurd (true≢false (sym (rw (turned msg 0xC9 q, turned msg 0xCB r, turned msg 0xCC l, turned msg 0xD0 d) at e)))))))
+
+-- the causes of a body that do not apply
+module _ (rows : List Row) (s : Seat) (m : List ℕ) where
+  freed-open : firstCause (bodyCauses rows 1 s m) ≡ 0 → isOpen (cursorIn s (handleOf m)) ≡ true
+  unfolding firstCause
+  freed-open e =
+      by-test (isOpen (cursorIn s (handleOf m)))
+      (λ q. q)
+      (λ q.
+      by-test (eqb (length m) 20)
+      (λ l. absurd (let z : _≡_ {A = ℕ} 10 0 = rw (l, q) at e in omega arith))
+      (λ l. absurd (let z : _≡_ {A = ℕ} 9 0 = rw l at e in omega arith)))
+
+  pub record Binding : Type 0 where
+    pub cursor : Cursor
+    pub body : Bindings
+    pub held : cursorIn s (handleOf m) ≡ some cursor
+    pub reads : bindings m ≡ some body
+
+  binding : firstCause (bodyCauses rows 3 s m) ≡ 0 → Binding
+  unfolding firstCause
+  binding e = go (cursorIn s (handleOf m)) refl (bindings m) refl e
+    where
+      go : (o : Option Cursor) → cursorIn s (handleOf m) ≡ o → (x : Option Bindings) → bindings m ≡ x
+          → firstCause ((9, unread x) ∷ (10, not (isOpen o)) ∷ (12, unfit x) ∷ []) ≡ 0 → Binding
+      go none h none b w = absurd (let z : _≡_ {A = ℕ} 9 0 = w in omega arith)
+      go none h (some x) b w = absurd (let z : _≡_ {A = ℕ} 10 0 = w in omega arith)
+      go (some c) h none b w = absurd (let z : _≡_ {A = ℕ} 9 0 = w in omega arith)
+      go (some c) h (some x) b w = record { cursor = c; body = x; held = h; reads = b }
+
+  -- the cursor under a handle, where the message names one that is open, by what is put in its place
+  named : (handle : ℕ) (o x : Option Cursor) → Handle (handleOf m) → Handle handle → (handleOf m ≡ handle → o ≡ x)
+      → cursorIn (withCursor s (handleOf m) o) handle ≡ pick (eqb (handleOf m) handle) x (cursorIn s handle)
+  named handle o x a b f =
+      with-in s (handleOf m) handle o a b
+      ∙ by-test (eqb (handleOf m) handle) (λ q. rw q (f (eqb-true (handleOf m) handle q))) (λ q. rw q)
+
+  -- get rows, and set bindings
+  fetch-told : (handle : ℕ) → Handle handle → (c : Cursor) (q : Request) → cursorIn s (handleOf m) ≡ some c → request m ≡ some q
+      → numberAt 4 (fetchReply rows c q) 16 ≡ sent rows c q
+      → cursorBy (rowsDone rows s (handleOf m) (cursorIn s (handleOf m)) (request m) .after) handle
+      ≡ pick (eqb (handleOf m) handle)
+      (carriedOn (rowsDone rows s (handleOf m) (cursorIn s (handleOf m)) (request m) .reply) (cursorIn s handle))
+      (cursorIn s handle)
+  fetch-told handle n c q h b r =
+      rw (h, b)
+      (named handle (some (fetched rows c q)) (carriedOn (fetchReply rows c q) (cursorIn s handle)) (open-handle s (handleOf m) (ap isOpen h)) n
+      (λ w.
+      ap (λ (i : ℕ). some (moved c (c .position + i))) (sym r)
+      ∙ ap (carriedOn (fetchReply rows c q)) (sym (ap (cursorIn s) (sym w) ∙ h))))
+
+  bind-told : (handle : ℕ) → Handle handle → (c : Cursor) (x : Bindings) → cursorIn s (handleOf m) ≡ some c → bindings m ≡ some x
+      → cursorBy (some (boundTo s (handleOf m) (cursorIn s (handleOf m)) (bindings m))) handle
+      ≡ pick (eqb (handleOf m) handle) (boundOn (bindings m) (cursorIn s handle)) (cursorIn s handle)
+  bind-told handle n c x h b =
+      rw (h, b)
+      (named handle (some (rebound c (x .width) (x .columns))) (boundOn (some x) (cursorIn s handle)) (open-handle s (handleOf m) (ap isOpen h)) n
+      (λ w. ap (boundOn (some x)) (sym (ap (cursorIn s) (sym w) ∙ h))))
+
+  -- what each kind of message makes of it
+  done-told : SeatOk (some s) → (handle : ℕ) → Handle handle → Kind (msgOf m) → firstCause (bodyCauses rows (kindOf (msgOf m)) s m) ≡ 0
+      → cursorBy (doneOn rows (kindOf (msgOf m)) s m .after) handle
+      ≡ afterMessage handle m (doneOn rows (kindOf (msgOf m)) s m .reply) (cursorIn s handle)
+  done-told f handle n (leaves a k) e = rw (k, a)
+  done-told f handle n (frees a b k) e =
+      rw (k, a, b)
+      (named handle none none (open-handle s (handleOf m) (freed-open (rw k at e))) n (λ w. refl))
+  done-told f handle n (fetches a b d k) e =
+      let r = fetching rows s m f (rw k at e) in
+      rw (k, a, b, d)
+      (fetch-told handle n (r .cursor) (r .asked) (r .held) (r .body) (count-read rows (r .cursor) (r .asked) (r .fits) (r .bound) (r .sound)))
+  done-told f handle n (binds a b d k) e =
+      let r = binding (rw k at e) in
+      rw (k, a, b, d) (bind-told handle n (r .cursor) (r .body) (r .held) (r .reads))
+
+  -- a message that its seat accepts is done by its kind, which is one of the four
+  pub accepted-kind : firstCause (seatCauses rows (some s) m) ≡ 0 → Kind (msgOf m) × (firstCause (bodyCauses rows (kindOf (msgOf m)) s m) ≡ 0)
+  unfolding firstCause
+  accepted-kind e =
+      let b = first-both (gateCauses (some s) m) (bodyOf rows (some s) m) (gate-numbered (some s) m) e in
+      (kind-of (msgOf m) (serves (b .0)), b .1)
+    where
+      serves : firstCause (gateCauses (some s) m) ≡ 0 → served (msgOf m) ≡ true
+      serves w = by-test (served (msgOf m)) (λ q. q) (λ q. absurd (let z : _≡_ {A = ℕ} 6 0 = rw q at w in omega arith))
+
+-- a message on its seat
+message-told : (rows : List Row) (held : Option Seat) (m : List ℕ) → SeatOk held → (handle : ℕ) → Handle handle → firstCause (seatCauses rows held m) ≡ 0
+    → cursorBy (seatMessage rows held m .after) handle ≡ afterMessage handle m (seatMessage rows held m .reply) (cursorBy held handle)
+unfolding seatMessage firstCause
+message-told rows none m f handle n e =
+    by-test (served (msgOf m))
+    (λ q. absurd (let z : _≡_ {A = ℕ} 7 0 = rw q at e in omega arith))
+    (λ q. absurd (let z : _≡_ {A = ℕ} 6 0 = rw q at e in omega arith))
+message-told rows (some s) m f handle n e =
+    let k = accepted-kind rows s m e in
+    rw (eq-eqb (firstCause (seatCauses rows (some s) m)) 0 e) (done-told rows s m f handle n (k .0) (k .1))
+
+-- a call by its seat alone
+own-message : (src : Sources) (held : Option Seat) (k : ℕ) (m : List ℕ) (room : ℕ) → SeatOk held → (handle : ℕ) → Handle handle
+    → ownStep src held (messaging k m room) .answer .refusal ≡ 0
+    → cursorBy (ownStep src held (messaging k m room) .after) handle
+    ≡ afterCall src k handle (cursorBy held handle) (messaging k m room) (ownStep src held (messaging k m room) .answer)
+own-message src held k m room f handle n =
+    by-test (eqb (firstCause (sizing m room)) 0)
+    (λ q.
+    rw (q, eq-eqb k k refl) (λ e.
+    rw (eq-eqb (seatMessage (rowsOf (src .rows)) held m .refusal) 0 e)
+    (message-told (rowsOf (src .rows)) held m f handle n (sym (seat-refusal (rowsOf (src .rows)) held m) ∙ e))))
+    (λ q. rw q (λ e. absurd (eqb-false (firstCause (sizing m room)) 0 q e)))
+
+own-told : (src : Sources) (held : Option Seat) (c : Call) → SeatOk held → (handle : ℕ) → Handle handle → ownStep src held c .answer .refusal ≡ 0
+    → cursorBy (ownStep src held c .after) handle ≡ afterCall src (seatOfCall c) handle (cursorBy held handle) c (ownStep src held c .answer)
+unfolding firstCause
+own-told src none (connecting k version) f handle n e =
+    by-test (eqb handle 1) (λ q. rw q) (λ q. by-test (eqb handle 2) (λ l. rw (q, l)) (λ l. rw (q, l)))
+own-told src (some s) (connecting k version) f handle n e = refl
+own-told src none (opening k tree) f handle n e = absurd (let z : _≡_ {A = ℕ} 7 0 = e in omega arith)
+own-told src (some s) (opening k tree) f handle n e =
+    by-test (eqb (freeHandle s) 0)
+    (λ q. absurd (let z : _≡_ {A = ℕ} 14 0 = rw q at e in omega arith))
+    (λ q.
+    by-test (isTree (restriction tree))
+    (λ t.
+    rw (q, t, eq-eqb k k refl)
+    (with-in s (freeHandle s) handle (some (opened (selectedBy (restriction tree) (src .rows)))) (free-handle s q) n))
+    (λ t. absurd (let z : _≡_ {A = ℕ} 16 0 = rw (q, t) at e in omega arith)))
+own-told src held (messaging k m room) f handle n e = own-message src held k m room f handle n e
+
+-- a call in any table, for any seat and handle
+pub step-told : (s t : List ℕ) (c : Call) (seat handle : ℕ) → seat < seats → Handle handle
+    → heldCursor (step (sourcesOf s) t c .words) seat handle
+    ≡ afterCall (sourcesOf s) seat handle (heldCursor t seat handle) c (answerOf (step (sourcesOf s) t c))
+step-told s t c seat handle h n =
+    by-test (eqb (step (sourcesOf s) t c .refusal) 0)
+    (λ q. accept (eqb-true (step (sourcesOf s) t c .refusal) 0 q))
+    (λ q.
+    ap (λ (x : List ℕ). heldCursor x seat handle) (refused-leaves (sourcesOf s) t c (eqb-false (step (sourcesOf s) t c .refusal) 0 q) .words)
+    ∙ sym (unheard c (heldCursor t seat handle) (answerOf (step (sourcesOf s) t c)) (refused (eqb (seatOfCall c) seat) q)))
+  where
+    -- what is refused, and what another seat calls, tells nothing
+    refused : (b : Bool) → eqb (step (sourcesOf s) t c .refusal) 0 ≡ false → both b (eqb (step (sourcesOf s) t c .refusal) 0) ≡ false
+    refused true q = q
+    refused false q = refl
+
+    unheard : (d : Call) (o : Option Cursor) (a : Answer) → accepted seat (seatOfCall d) a ≡ false → afterCall (sourcesOf s) seat handle o d a ≡ o
+    unheard (connecting k version) o a e = refl
+    unheard (opening k tree) o a e = rw e
+    unheard (messaging k m room) o a e = rw e
+
+    accept : step (sourcesOf s) t c .refusal ≡ 0
+        → heldCursor (step (sourcesOf s) t c .words) seat handle
+        ≡ afterCall (sourcesOf s) seat handle (heldCursor t seat handle) c (answerOf (step (sourcesOf s) t c))
+    accept z =
+        let a = accepted-passes (sourcesOf s) t c z in
+        let l = step-alone s t (record { well = a .table-in; holds = a .rows-in }) c (a .seat-in) in
+        by-test (eqb (seatOfCall c) seat)
+        (λ q.
+        let same : seatOfCall c ≡ seat = eqb-true (seatOfCall c) seat q in
+        subst
+        (λ (j : ℕ). heldCursor (step (sourcesOf s) t c .words) j handle ≡ afterCall (sourcesOf s) j handle (heldCursor t j handle) c (answerOf (step (sourcesOf s) t c)))
+        same
+        (ap (λ (o : Option Seat). cursorBy o handle) (l .held)
+        ∙ own-told (sourcesOf s) (seatHeld t (seatOfCall c)) c (seat-ok t (a .table-in) (seatOfCall c) (a .seat-in)) handle n
+        (sym (ap (λ (x : Answer). x .refusal) (l .answer)) ∙ z)
+        ∙ ap (afterCall (sourcesOf s) (seatOfCall c) handle (heldCursor t (seatOfCall c) handle) c) (sym (l .answer))))
+        (λ q.
+        ap (λ (o : Option Seat). cursorBy o handle) (others-left s t c seat h (λ w. eqb-false (seatOfCall c) seat q (sym w)))
+        ∙ sym (unheard c (heldCursor t seat handle) (answerOf (step (sourcesOf s) t c)) (rw q)))
+
+-- any calls from any table: the cursor is what they and their answers tell, from the one before
+pub after-told : (s t : List ℕ) (calls : List Call) (seat handle : ℕ) → seat < seats → Handle handle
+    → heldCursor (after (sourcesOf s) t calls) seat handle
+    ≡ cursorTold (sourcesOf s) seat handle (heldCursor t seat handle) (history (sourcesOf s) t calls)
+unfolding after history cursorTold
+after-told s t [] seat handle h n = refl
+after-told s t (c ∷ calls) seat handle h n =
+    after-told s (step (sourcesOf s) t c .words) calls seat handle h n
+    ∙ ap (λ (o : Option Cursor). cursorTold (sourcesOf s) seat handle o (history (sourcesOf s) (step (sourcesOf s) t c .words) calls))
+    (step-told s t c seat handle h n)

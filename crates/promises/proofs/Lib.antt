@@ -1,0 +1,16 @@
+pub mod First
+pub mod Refusals
+pub mod Unchanged
+pub mod Reached
+pub mod Alone
+pub mod Isolated
+pub mod Served
+pub mod Replies
+pub mod Carried
+pub mod Joined
+pub mod Fetched
+pub mod Opened
+pub mod Done
+pub mod Numbers
+pub mod Case
+pub mod Kept

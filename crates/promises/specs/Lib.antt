@@ -1,0 +1,9 @@
+pub mod Calls
+pub mod Causes
+pub mod Told
+pub mod Own
+pub mod Rows
+pub mod Opens
+pub mod Done
+pub mod Numbers
+pub mod Case

@@ -1,0 +1,33 @@
+-- What an accepted opening does (01: "opening takes the lowest free handle, with position 0 and no bindings"; "A query selects exactly
+-- the rows its tree describes, in order").
+use mathlib.Core.Path.{_≡_}
+use mathlib.Core.Bool.{true}
+use mathlib.Core.List.{List, List·Memᴰ}
+use mathlib.Core.Logic.{_↔_, _⊎_}
+use mathlib.Core.Option.{none, some}
+use Prim.Native.Nat.{ℕ, _<_}
+use lib.ListN.{length}
+use Rattle.catalogue.specs.Plain.{Row, catalogue}
+use Rattle.restriction.specs.Tree.{Tree}
+use Rattle.restriction.specs.Holds.{holds}
+use Rattle.restriction.specs.Reader.{restriction}
+use Rattle.restriction.specs.Rising.{Rises}
+use Rattle.rows.specs.Reads.{rowIn}
+use Rattle.sessions.specs.Seat.{opened}
+use Rattle.server.specs.Step.{Outcome}
+use Rattle.promises.specs.Told.{heldCursor}
+
+pub record Opens (s t : List ℕ) (seat : ℕ) (bytes : List ℕ) (o : Outcome) : Type 0 where
+  pub rows : List Row
+  pub tree : Tree
+  pub selection : List ℕ
+  pub parsed : catalogue s ≡ some rows
+  pub read : restriction bytes ≡ some tree
+  -- the numbers of the rows that the tree holds for, all of them and no others, rising
+  pub has : (k : ℕ) → List·Memᴰ k selection ↔ ((k < length rows) × (holds tree (rowIn rows k) ≡ true))
+  pub rises : Rises selection
+  -- the lowest free handle
+  pub free : heldCursor t seat (o .handle) ≡ none
+  pub lowest : (o .handle ≡ 1) ⊎ ((o .handle ≡ 2) × (heldCursor t seat 1 ≡ none → ⊥))
+  -- a cursor on that selection, at position 0 and without bindings
+  pub cursor : heldCursor (o .words) seat (o .handle) ≡ some (opened selection)
