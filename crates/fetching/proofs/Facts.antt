@@ -10,11 +10,11 @@ use native.Mathlib.Omega.{arith}
 use borrow.Author.Tests.{leb-true, ltb-true, eq-eqb}
 use lib.Dec.{leb, ltb, eqb}
 use lib.ListN.{length, getD, take, drop, length-drop}
-use lib.Seq.{take-take, take-all, drop-drop}
+use lib.Seq.{take-take, take-all, drop-drop, getD-take, getD-drop}
 use Rattle.words.specs.Below.{both}
 use Rattle.words.proofs.Below.{both-left, both-right, both-true}
 use Rattle.catalogue.specs.Plain.{Row, catalogue}
-use Rattle.catalogue.specs.Places.{rowSeen}
+use Rattle.catalogue.specs.Places.{RowThere, rowSeen}
 use Rattle.columns.specs.Column.{columnsMost}
 use Rattle.columns.specs.Each.{every}
 use Rattle.columns.specs.Property.{within}
@@ -26,9 +26,10 @@ use Rattle.sessions.proofs.Tables.{part-length}
 use Rattle.columns.proofs.Sound.{fit-sound}
 use Rattle.refusals.specs.Refusal.{firstCause}
 use Rattle.requests.specs.declared.Request.{Request}
-use Rattle.rows.specs.Page.{rowsAt, returned}
+use Rattle.rows.specs.Page.{rowsAt}
 use Rattle.rows.specs.Ready.{Words, There}
-use Rattle.fetching.specs.Fetch.{numbered, remaining, earlyCauses, sent}
+use Rattle.rows.proofs.Steps.{rows-more}
+use Rattle.fetching.specs.Fetch.{numbered, remaining, earlyCauses}
 use Rattle.fetching.specs.Ready.{rowsOf, Placed, FetchReady}
 
 -- a part of a list's first members is a part of the list
@@ -109,19 +110,33 @@ module _ (b s places : List ℕ) (q : Request) (buffer : ℕ) (r : FetchReady b 
   pub all-there : There s places (take (50 + getD b 2 0 - (50 + getD b 1 0)) (drop (50 + getD b 1 0) b))
   all-there = part-there (50 + getD b 2 0 - (50 + getD b 1 0)) (omega (arith, position-most))
 
-  pub count-told : returned (cursorHeld b .width) (cursorHeld b .columns) (q .asked) (q .size - q .from)
-      (rowsAt s places (take (50 + getD b 2 0 - (50 + getD b 1 0)) (drop (50 + getD b 1 0) b)))
-      ≡ sent (rowsOf (catalogue s)) (cursorHeld b) q
-  count-told =
-      ap (returned (cursorHeld b .width) (cursorHeld b .columns) (q .asked) (q .size - q .from))
-      (ap (rowsAt s places)
+  pub all-rows : rowsAt s places (take (50 + getD b 2 0 - (50 + getD b 1 0)) (drop (50 + getD b 1 0) b)) ≡ remaining (rowsOf (catalogue s)) (cursorHeld b)
+  all-rows =
+      ap (rowsAt s places)
       (ap (λ (n : ℕ). take n (drop (50 + getD b 1 0) b)) difference
       ∙ numbers-are (getD b 2 0 - getD b 1 0) (omega (arith, position-most))
       ∙ take-all (getD b 2 0 - getD b 1 0) (drop (getD b 1 0) (cursorHeld b .selection)) (omega (arith, count-is, length-drop (getD b 1 0) (cursorHeld b .selection))))
-      ∙ rows-are)
+      ∙ rows-are
     where
       difference : 50 + getD b 2 0 - (50 + getD b 1 0) ≡ getD b 2 0 - getD b 1 0
       difference = omega arith
+
+  -- the first row that remains, where there is one
+  module _ (h : getD b 1 0 < getD b 2 0) where
+    number-is : getD b (50 + getD b 1 0) 0 ≡ getD (cursorHeld b .selection) (getD b 1 0) 0
+    number-is = sym (getD-take (getD b 2 0) (drop 50 b) (getD b 1 0) 0 h ∙ getD-drop 50 b (getD b 1 0) 0)
+
+    pub first-there : RowThere s (getD places (getD b (50 + getD b 1 0) 0) 0)
+    first-there =
+        subst (λ (n : ℕ). RowThere s (getD places n 0)) (sym number-is)
+        (numbered-there s places (cursorHeld b .selection) (r .placed) (r .below) (getD b 1 0) (omega (arith, count-is)))
+
+    pub first-row : remaining (rowsOf (catalogue s)) (cursorHeld b)
+        ≡ rowSeen s (getD places (getD b (50 + getD b 1 0) 0) 0) ∷ rowsAt s places (drop (getD b 1 0 + 1) (cursorHeld b .selection))
+    first-row =
+        sym rows-are
+        ∙ rows-more s places (cursorHeld b .selection) (getD b 1 0) (omega (arith, count-is))
+        ∙ ap (λ (n : ℕ). rowSeen s (getD places n 0) ∷ rowsAt s places (drop (getD b 1 0 + 1) (cursorHeld b .selection))) (sym number-is)
 
   module _ (e : firstCause (earlyCauses (cursorHeld b) q) ≡ 0) where
     bound : length (cursorHeld b .columns) ≡ 0 → ⊥

@@ -4,7 +4,7 @@ use mathlib.Core.Bool.{true, false}
 use mathlib.Core.List.{List, [], _∷_}
 use Prim.Native.Nat.{ℕ, _+_, _-_, _≤_, _<_}
 use native.Mathlib.Omega.{arith}
-use borrow.Author.Tests.{eq-eqb, ne-eqb, lt-ltb, le-ltb, ltb-true, eqb-true, not-false}
+use borrow.Author.Tests.{eq-eqb, ne-eqb, lt-ltb, le-ltb, ltb-true, ltb-false}
 use lib.Dec.{ltb, eqb}
 use lib.ListN.{length, getD}
 use Rattle.words.specs.Below.{both}
@@ -15,8 +15,7 @@ use Rattle.sessions.specs.Layout.{recordsAt, recordsSize, part}
 use Rattle.sessions.specs.Seat.{Cursor, cursorHeld}
 use Rattle.refusals.specs.Refusal.{firstCause}
 use Rattle.requests.specs.declared.Request.{Request}
-use Rattle.rows.specs.Page.{blocks, returned}
-use Rattle.rows.proofs.Greatest.{none-returned}
+use Rattle.rows.specs.Page.{blocks}
 use Rattle.fetching.specs.Fetch.{notServed, firstUnfit, earlyCauses}
 
 -- the causes that need no row, of a cursor by its words
@@ -42,22 +41,8 @@ module _ (b : List ℕ) (q : Request) where
       unfolding firstCause
       all-served h = rw (bound-is, ne-eqb (getD b 3 0) 0 n, eq-eqb (q .width) (getD b 4 0) w, h)
 
--- refusal 15 by the count: nothing is sent though a row is asked for and remains
-module _ (c : Cursor) (q : Request) (inside : q .from ≤ q .size) where
-  pub first-unfit : (rows : List Row) → (length rows ≡ 0 → ⊥) → (q .asked ≡ 0 → ⊥) → returned (c .width) (c .columns) (q .asked) (q .size - q .from) rows ≡ 0
-      → firstUnfit c q rows ≡ true
-  first-unfit [] n a e = absurd (n refl)
-  first-unfit (r ∷ rows) n a e =
-      rw (lt-ltb 0 (q .asked) (omega arith), lt-ltb (q .size) (q .from + (c .width + blocks (c .columns) r)) (none-returned (q .size) (q .from) (c .width) (c .columns) (q .asked) r rows inside (omega arith) .0 e))
-
-  pub first-fits : (rows : List Row) → (length rows ≡ 0 → ⊥) → (q .asked ≡ 0 → ⊥) → (returned (c .width) (c .columns) (q .asked) (q .size - q .from) rows ≡ 0 → ⊥)
-      → firstUnfit c q rows ≡ false
-  first-fits [] n a e = absurd (n refl)
-  first-fits (r ∷ rows) n a e =
-      by-test (ltb (q .size) (q .from + (c .width + blocks (c .columns) r)))
-      (λ k. absurd (e (none-returned (q .size) (q .from) (c .width) (c .columns) (q .asked) r rows inside (omega arith) .1 (ltb-true (q .size) _ k))))
-      (λ k. rw (lt-ltb 0 (q .asked) (omega arith), k))
-
+-- refusal 15: no row is asked for, none is left, or the first one's room decides
+module _ (c : Cursor) (q : Request) where
   pub none-asked : (rows : List Row) → q .asked ≡ 0 → firstUnfit c q rows ≡ false
   none-asked [] e = refl
   none-asked (r ∷ rows) e = rw (le-ltb 0 (q .asked) (omega arith))
@@ -65,3 +50,14 @@ module _ (c : Cursor) (q : Request) (inside : q .from ≤ q .size) where
   pub none-left : (rows : List Row) → length rows ≡ 0 → firstUnfit c q rows ≡ false
   none-left [] e = refl
   none-left (r ∷ rows) e = absurd (omega arith)
+
+  pub one-left : (rows rest : List Row) (r : Row) → rows ≡ r ∷ rest → (q .asked ≡ 0 → ⊥)
+      → firstUnfit c q rows ≡ ltb (q .size) (q .from + (c .width + blocks (c .columns) r))
+  one-left rows rest r e a = rw (e, lt-ltb 0 (q .asked) (omega arith))
+
+-- the room after the first bytes of a reply, or the whole of it
+pub room-less : (size from need : ℕ) → from ≤ size → ltb (size - from) need ≡ ltb size (from + need)
+room-less size from need h =
+    by-test (ltb size (from + need))
+    (λ q. lt-ltb (size - from) need (omega (arith, ltb-true size (from + need) q)) ∙ sym q)
+    (λ q. le-ltb (size - from) need (omega (arith, ltb-false size (from + need) q)) ∙ sym q)

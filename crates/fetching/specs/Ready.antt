@@ -1,12 +1,10 @@
 -- What is known before rows are fetched, and what is left afterwards.
 use mathlib.Core.Path.{_≡_}
-use mathlib.Core.Bool.{Bool, true, not}
+use mathlib.Core.Bool.{true}
 use mathlib.Core.List.{List, [], _++_}
 use mathlib.Core.Option.{Option, none, some}
 use Prim.Native.Nat.{ℕ, _≤_, _<_}
-use lib.Dec.{eqb}
 use lib.ListN.{length, getD, drop}
-use Rattle.words.specs.Below.{both}
 use Rattle.catalogue.specs.Plain.{Row, catalogue}
 use Rattle.catalogue.specs.Places.{RowThere, rowSeen}
 use Rattle.sessions.specs.Seat.{Cursor, cursorBlock, cursorHeld}
@@ -28,11 +26,6 @@ abbrev pub Placed : List ℕ → List ℕ → Type 0
 Placed s places =
     (k : ℕ) → k < length (rowsOf (catalogue s))
     → RowThere s (getD places k 0) × (rowSeen s (getD places k 0) ≡ rowIn (rowsOf (catalogue s)) k)
-
--- nothing is sent, though a row is asked for and the position has not passed all: refusal 15 by the count
-abbrev pub stuck : ℕ → ℕ → ℕ → ℕ → Bool
-stuck carried asked position selected =
-    both (eqb carried 0) (both (not (eqb asked 0)) (not (eqb position selected)))
 
 -- the words of an open cursor that passes, whose row numbers the catalogue has, its rows at their places, a sound request, and
 -- a buffer with room for the reply

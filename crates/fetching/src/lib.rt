@@ -6,9 +6,10 @@ ghost use Rattle.catalogue.specs.Plain.{catalogue};
 ghost use Rattle.sessions.specs.Layout.{cursorSize};
 ghost use Rattle.sessions.specs.Seat.{cursorHeld};
 ghost use Rattle.refusals.specs.Refusal.{firstCause};
-ghost use Rattle.fetching.specs.Fetch.{notServed, earlyCauses, sent, fetchReply};
-ghost use Rattle.fetching.specs.Ready.{rowsOf, stuck, FetchReady, Fetched};
+ghost use Rattle.fetching.specs.Fetch.{notServed, firstUnfit, remaining, earlyCauses, sent, fetchReply};
+ghost use Rattle.fetching.specs.Ready.{rowsOf, FetchReady, Fetched};
 use requests::Request;
+use rows::Row;
 
 // A request that refusal 13 names.
 fn not_served(q: Request) -> bool
@@ -43,65 +44,51 @@ fn judge(block: &[u32], q: Request) -> u32
     0
 }
 
-// How many of the rows that remain are sent.
-fn count(block: &[u32], q: Request, s: &[u8], places: &[u32]) -> usize
+// A row is asked for and remains, but the first does not fit.
+fn first_unfit(block: &[u32], q: Request, s: &[u8], places: &[u32]) -> bool
     requires { ⌜ FetchReady (now block) (now s) (now places) q (q .size) × (firstCause (earlyCauses (cursorHeld (now block)) q) ≡ 0) ⌝ }
+    ensures { λ r. ⌜ r ≡ firstUnfit (cursorHeld (now (block .entry))) q (remaining (rowsOf (catalogue (now (s .entry)))) (cursorHeld (now (block .entry)))) ⌝ }
+{
+    if q.asked == 0 {
+        return false;
+    }
+    let position = block[sessions::POSITION] as usize;
+    let selected = block[sessions::COUNT] as usize;
+    if position == selected {
+        return false;
+    }
+    let number = block[sessions::ROWS + position];
+    let bound = block[sessions::COLUMNS] as usize;
+    let width = block[sessions::WIDTH] as usize;
+    let records = &block[sessions::RECORDS..sessions::ROWS];
+    let need = rows::room_of(s, places, Row(number), records, bound, width);
+    let room = (q.size - q.from) as usize;
+    room < need
+}
+
+// The reply with the rows that remain, as many as are asked for and fit: their count.
+fn send(block: &[u32], q: Request, s: &[u8], places: &[u32], reply: &mut [u8]) -> usize
+    requires { ⌜ FetchReady (now block) (now s) (now places) q (length (now reply)) × (firstCause (earlyCauses (cursorHeld (now block)) q) ≡ 0) ⌝ }
     ensures { λ r. ⌜ r ≡ sent (rowsOf (catalogue (now (s .entry)))) (cursorHeld (now (block .entry))) q ⌝ }
+    ensures { λ r. ⌜ now (reply .exit) ≡ fetchReply (rowsOf (catalogue (now (s .entry)))) (cursorHeld (now (block .entry))) q ++ drop (q .size) (now (reply .entry)) ⌝ }
 {
     let first = sessions::ROWS + (block[sessions::POSITION] as usize);
     let end = sessions::ROWS + (block[sessions::COUNT] as usize);
     let bound = block[sessions::COLUMNS] as usize;
     let width = block[sessions::WIDTH] as usize;
-    let room = (q.size - q.from) as usize;
-    rows::count(
+    rows::page(
+        reply,
         s,
         places,
         &block[first..end],
         &block[sessions::RECORDS..sessions::ROWS],
         bound,
         width,
-        room,
-        q.asked as usize,
-    )
-}
-
-// The reply with so many of the rows that remain.
-fn send(block: &[u32], q: Request, s: &[u8], places: &[u32], reply: &mut [u8], carried: usize)
-    requires { ⌜ FetchReady (now block) (now s) (now places) q (length (now reply)) × (firstCause (earlyCauses (cursorHeld (now block)) q) ≡ 0) × (carried ≡ sent (rowsOf (catalogue (now s))) (cursorHeld (now block)) q) ⌝ }
-    ensures { λ _. ⌜ now (reply .exit) ≡ fetchReply (rowsOf (catalogue (now (s .entry)))) (cursorHeld (now (block .entry))) q ++ drop (q .size) (now (reply .entry)) ⌝ }
-{
-    let first = sessions::ROWS + (block[sessions::POSITION] as usize);
-    let last = first + carried;
-    let left = sessions::ROWS + (block[sessions::COUNT] as usize) - last;
-    let bound = block[sessions::COLUMNS] as usize;
-    let width = block[sessions::WIDTH] as usize;
-    let status = rows::status_for(left);
-    rows::page(
-        reply,
-        s,
-        places,
-        &block[first..last],
-        &block[sessions::RECORDS..sessions::ROWS],
-        bound,
-        width,
         q.size as usize,
         q.from as usize,
         q.base as u64,
-        status,
-    );
-}
-
-// Nothing is sent though a row is asked for and remains.
-fn stuck(carried: usize, asked: u32, position: u32, selected: u32) -> bool
-    ensures { λ r. ⌜ r ≡ stuck carried asked position selected ⌝ }
-{
-    if carried != 0 {
-        return false;
-    }
-    if asked == 0 {
-        return false;
-    }
-    position != selected
+        q.asked as usize,
+    )
 }
 
 // Fetches rows: the refusal, else 0.
@@ -113,12 +100,11 @@ pub fn fetch(block: &mut [u32], q: Request, s: &[u8], places: &[u32], reply: &mu
     if refusal != 0 {
         return refusal;
     }
-    let carried = count(block, q, s, places);
-    let position = block[sessions::POSITION];
-    if stuck(carried, q.asked, position, block[sessions::COUNT]) {
+    if first_unfit(block, q, s, places) {
         return 15;
     }
-    send(block, q, s, places, reply, carried);
+    let carried = send(block, q, s, places, reply);
+    let position = block[sessions::POSITION];
     seats::move_to(block, position + (carried as u32));
     0
 }

@@ -1,4 +1,4 @@
--- Numbers and bytes of a calls file.
+-- Numbers and bytes of a calls file (README, "Replaying recorded calls").
 use mathlib.Core.Bool.{Bool, true, false}
 use mathlib.Core.List.{List, [], _∷_}
 use mathlib.Core.Option.{Option, none, some}

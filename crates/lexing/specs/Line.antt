@@ -1,4 +1,4 @@
--- The call that a line of a calls file is, or why it is none. Words are judged from left to right, each fully before the next:
+-- The call that a line of a calls file is, its comment cut off, or why it is none (README, "Replaying recorded calls"). Words are judged from left to right, each fully before the next:
 -- that it is there, its form, its limit; and after the last, that no further word is there.
 use mathlib.Core.Bool.{Bool}
 use mathlib.Core.List.{List, [], _∷_}
@@ -22,7 +22,7 @@ use Rattle.lexing.specs.declared.Call.the-variants as call
 abbrev pub between : ℕ → ℕ → List ℕ → List ℕ
 between a e s = take (e - a) (drop a s)
 
--- "a catalogue over 32,768 bytes, a message or tree over 20,000 bytes, ROOM over 20,000, INDEX past the table"
+-- "a catalogue over 32,768 bytes, a tree or message over 20,000, ROOM over 20,000"; "INDEX above 17,199"
 abbrev pub catalogueMost : ℕ
 catalogueMost = 32768
 

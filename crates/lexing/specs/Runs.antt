@@ -1,4 +1,4 @@
--- Lines, words and comments of a calls file.
+-- Lines, words and comments of a calls file (README, "Replaying recorded calls").
 use mathlib.Core.Bool.{Bool, true, false}
 use mathlib.Core.List.{List, [], _∷_}
 use Prim.Native.Nat.{ℕ, suc, _+_}
@@ -23,7 +23,7 @@ inLine b = opposite (eqb b 10)
 abbrev pub inCall : ℕ → Bool
 inCall b = opposite (eqb b 35)
 
--- "words separated by spaces, tabs or carriage returns"
+-- "Words stand apart by spaces, tabs or carriage returns"
 abbrev pub separates : ℕ → Bool
 separates b = either (eqb b 32) (either (eqb b 9) (eqb b 13))
 

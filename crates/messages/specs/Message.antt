@@ -18,6 +18,7 @@ use Rattle.sessions.specs.Layout.{cursorSize, cursorPlace, columnsAt, widthAt, 
 use Rattle.sessions.specs.Seat.{Cursor, Seat, cursorIn, withCursor, rebound}
 use Rattle.refusals.specs.Refusal.{firstCause, statusOf}
 use Rattle.requests.specs.Request.{request}
+use Rattle.requests.specs.Asking.{asking, refusalOf}
 use Rattle.requests.specs.declared.Request.{Request}
 use Rattle.fetching.specs.Fetch.{fetchCauses, fetchReply, fetched}
 
@@ -43,7 +44,7 @@ served msg = ltb (kindOf msg) kinds
 abbrev pub tested : ℕ → Bool
 tested kind = eqb (getD messageTable (2 * kind + 1) 0) 1
 
--- the words of a request that are judged
+-- the words of a request that are judged: "A request's _status and _ulReserved2 aren't judged"
 abbrev pub msgOf : List ℕ → ℕ
 msgOf m = numberAt 4 m 0
 
@@ -73,10 +74,9 @@ abbrev pub unfit : Option Bindings → Bool
 unfit none = false
 unfit (some b) = not (fit (b .width) (b .columns))
 
--- 9 "body malformed", for get rows
+-- 9 "body malformed", for get rows: the number that the reader's answer has
 abbrev pub unasked : Option Request → Bool
-unasked none = true
-unasked (some q) = false
+unasked q = eqb (refusalOf (asking q)) 9
 
 -- 11, 12, 13 and 15, of a body that reads and an open cursor
 abbrev pub rowsCauses : List Row → Option Cursor → Option Request → List (ℕ × Bool)

@@ -34,16 +34,12 @@ use Rattle.opening.specs.Open.{freeHandle}
 use Rattle.server.specs.Step.{Sources, sourcesOf, seatHeld, sizing}
 use Rattle.server.proofs.Seating.{seat-ok}
 use Rattle.promises.specs.Calls.{Call, connecting, opening, messaging, seatOfCall, step, Answer, answerOf, history, after}
-use Rattle.promises.specs.Told.{carriedOn, boundOn, afterMessage, accepted, afterCall, cursorTold, cursorBy, heldCursor}
+use Rattle.promises.specs.Told.{Handle, carriedOn, boundOn, afterMessage, accepted, afterCall, cursorTold, cursorBy, heldCursor}
 use Rattle.promises.proofs.Refusals.{accepted-passes, seat-refusal}
 use Rattle.promises.proofs.Unchanged.{refused-leaves}
 use Rattle.promises.proofs.Alone.{ownStep, step-alone}
 use Rattle.promises.proofs.Isolated.{others-left}
 use Rattle.promises.proofs.Served.{fetching, count-read}
-
--- "handles 1 and 2"
-abbrev pub Handle : ℕ → Type 0
-Handle handle = (handle ≡ 1) ⊎ (handle ≡ 2)
 
 -- a cursor put under a handle, and what then stands under another
 with-in : (s : Seat) (h handle : ℕ) (o : Option Cursor) → Handle h → Handle handle

@@ -24,13 +24,13 @@ use Rattle.messages.specs.Message.{msgOf, handleOf, kindOf, kindFrom, served, i
 use Rattle.server.specs.Step.{Sources, sourcesOf, judging, seatHeld, sizing, messageStep}
 use Rattle.server.proofs.Seating.{seat-ok}
 use Rattle.promises.specs.Calls.{Call, messaging, step, answerOf, history, after, freshTable}
-use Rattle.promises.specs.Told.{cursorTold, cursorBy, heldCursor}
+use Rattle.promises.specs.Told.{Handle, cursorTold, cursorBy, heldCursor}
 use Rattle.promises.specs.Rows.{rowsTold, firstRows, RowsReply, Sends, Carries}
 use Rattle.promises.proofs.Refusals.{seat-refusal, accepted-passes}
 use Rattle.promises.proofs.Reached.{fresh-seat, reached-well}
 use Rattle.promises.proofs.Served.{cursor-ok, fetching}
 use Rattle.promises.proofs.Replies.{rows-held, reply-is}
-use Rattle.promises.proofs.Carried.{Handle, open-handle, accepted-kind, after-told}
+use Rattle.promises.proofs.Carried.{open-handle, accepted-kind, after-told}
 use Rattle.promises.proofs.Joined.{joined-first, page-further}
 
 -- the fresh table holds no cursor

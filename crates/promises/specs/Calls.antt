@@ -1,4 +1,5 @@
--- Calls one after another, from all seats, over one table and one unchanged catalogue.
+-- Calls one after another, from all seats, over one table and one unchanged catalogue (demand 3: "Under any calls from all
+-- eight seats").
 use mathlib.Core.List.{List, [], _∷_}
 use Prim.Native.Nat.{ℕ}
 use lib.ListN.{replicate}

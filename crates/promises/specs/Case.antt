@@ -9,6 +9,7 @@ use Rattle.rows.proofs.Vectors.{caseReply}
 use Rattle.promises.specs.Calls.{Call, connecting, opening, messaging, Event}
 use Rattle.promises.specs.Numbers.{getRows}
 
+-- a call with its answer
 abbrev pub event : Call → ℕ → ℕ → List ℕ → Event
 event c refusal handle reply = record { call = c; answer = record { refusal = refusal; handle = handle; reply = reply } }
 

@@ -27,11 +27,11 @@ use Rattle.opening.specs.Open.{openCauses}
 abbrev pub labelled : Option (List ℕ) → Row
 labelled label = record { key = 1; language = 0; default = 0; label = label; note = none }
 
--- a cursor on the first row, with the whole case's bindings: R 32, W 24
+-- a cursor on the first row, with the whole case's bindings: W 24
 abbrev pub onFirst : Cursor
 onFirst = record { position = 0; selection = 0 ∷ []; width = 24; columns = caseColumns }
 
--- a request for rows: one row, B 512
+-- a request for rows: one row, B 512, R 32
 abbrev pub forOne : Request
 forOne =
     record { handle = 1; asked = 1; width = 24; from = 32; size = 512; base = 0; backward = 0; seek = 1; chapter = 0; skip = 0 }

@@ -1,5 +1,5 @@
--- What an accepted opening does (01: "opening takes the lowest free handle, with position 0 and no bindings"; "A query selects exactly
--- the rows its tree describes, in order").
+-- What an accepted opening does (01: "opening takes the lowest free handle, with position 0 and no bindings"; demand 2: "A query selects
+-- exactly the rows its tree describes, in order").
 use mathlib.Core.Path.{_≡_}
 use mathlib.Core.Bool.{true}
 use mathlib.Core.List.{List, List·Memᴰ}

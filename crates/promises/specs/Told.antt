@@ -1,7 +1,9 @@
 -- The cursor that a client's calls and their answers tell, without a look at the table: the rows that the tree of its opening selects,
 -- how many of them its replies have carried (01: "A row is carried when _cRowsReturned counts it"), and its bindings.
+use mathlib.Core.Path.{_≡_}
 use mathlib.Core.Bool.{Bool}
 use mathlib.Core.List.{List, [], _∷_}
+use mathlib.Core.Logic.{_⊎_}
 use mathlib.Core.Option.{Option, none, some}
 use Prim.Native.Nat.{ℕ, _+_}
 use lib.Dec.{eqb}
@@ -15,6 +17,10 @@ use Rattle.sessions.specs.Seat.{Cursor, Seat, cursorIn, opened, rebound, moved}
 use Rattle.messages.specs.Message.{msgOf, handleOf}
 use Rattle.server.specs.Step.{Sources, seatHeld}
 use Rattle.promises.specs.Calls.{Call, connecting, opening, messaging, Answer, Event}
+
+-- "handles 1 and 2"
+abbrev pub Handle : ℕ → Type 0
+Handle handle = (handle ≡ 1) ⊎ (handle ≡ 2)
 
 -- get rows: "_cRowsReturned", the word at 16 of the reply, is added to what was carried
 abbrev pub carriedOn : List ℕ → Option Cursor → Option Cursor

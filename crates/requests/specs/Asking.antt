@@ -5,6 +5,7 @@ use Rattle.requests.specs.declared.Request.{Request}
 use Rattle.requests.specs.declared.Asking.{Asking}
 use Rattle.requests.specs.declared.Asking.the-variants.{Asked, Malformed}
 
+-- a request, or a malformed body
 abbrev pub asking : Option Request → Asking
 asking none = Malformed
 asking (some q) = Asked q

@@ -10,36 +10,47 @@ use Rattle.words.specs.Below.{pick, both}
 use Rattle.words.specs.Word.{numberAt}
 use Rattle.requests.specs.declared.Request.{Request}
 
+-- _hCursor
 abbrev pub handleAt : ℕ
 handleAt = 16
 
+-- _cRowsToTransfer
 abbrev pub askedAt : ℕ
 askedAt = 20
 
+-- _cbRowWidth
 abbrev pub widthAt : ℕ
 widthAt = 24
 
+-- _cbSeek
 abbrev pub seekSizeAt : ℕ
 seekSizeAt = 28
 
+-- _cbReserved
 abbrev pub reservedAt : ℕ
 reservedAt = 32
 
+-- _cbReadBuffer
 abbrev pub sizeAt : ℕ
 sizeAt = 36
 
+-- _ulClientBase
 abbrev pub baseAt : ℕ
 baseAt = 40
 
+-- _fBwdFetch
 abbrev pub backwardAt : ℕ
 backwardAt = 44
 
+-- eType
 abbrev pub seekAt : ℕ
 seekAt = 48
 
+-- _chapt
 abbrev pub chapterAt : ℕ
 chapterAt = 52
 
+-- seek: its one word, the skip
 abbrev pub skipAt : ℕ
 skipAt = 56
 

@@ -51,6 +51,11 @@ abbrev pub treeAnswer : Row → Option Tree → TreeAnswer
 treeAnswer row none = Malformed
 treeAnswer row (some t) = Holds (holds t row)
 
+-- 16 "restriction malformed or over a limit"; whether a tree holds is no refusal
+abbrev pub refusalOf : TreeAnswer → ℕ
+refusalOf Malformed = 16
+refusalOf (Holds holds) = 0
+
 -- whether there is a tree
 abbrev pub isTree : Option Tree → Bool
 isTree none = false

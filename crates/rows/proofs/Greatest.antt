@@ -7,7 +7,7 @@ use native.Mathlib.Nat.{not-suc-le-zero, le-of-suc-le-suc}
 use native.Mathlib.Omega.{arith}
 use borrow.Author.Tests.{leb-true, leb-false}
 use lib.Dec.{leb}
-use lib.ListN.{length, getD, take}
+use lib.ListN.{length, getD, take, length-map}
 use lib.Seq.{length-take-le}
 use Rattle.words.proofs.Below.{by-test}
 use Rattle.catalogue.specs.Plain.{Row}
@@ -85,11 +85,16 @@ returned-room size from width columns asked rows h =
     let g = returned-is size from width columns asked rows h in
     rw (length-take-le (returned width columns asked (size - from) rows) rows (g .left)) (g .fits)
 
--- the rows of the first k numbers are the first k rows
-pub rows-taken : (s places numbers : List ℕ) (k : ℕ) → rowsAt s places (take k numbers) ≡ take k (rowsAt s places numbers)
-rows-taken s places numbers zero = refl
-rows-taken s places [] (suc k) = refl
-rows-taken s places (n ∷ numbers) (suc k) = ap (λ rows. rowSeen s (getD places n 0) ∷ rows) (rows-taken s places numbers k)
+-- no more rows are returned than there are numbers
+pub returned-few : (size from width : ℕ) (columns : List Column) (asked : ℕ) (s places numbers : List ℕ) (k : ℕ) → from ≤ size
+    → k ≡ returned width columns asked (size - from) (rowsAt s places numbers) → k ≤ length numbers
+returned-few size from width columns asked s places numbers k h e =
+    omega (
+      arith,
+      e,
+      returned-is size from width columns asked (rowsAt s places numbers) h .left,
+      length-map numbers (λ (i : ℕ). rowSeen s (getD places i 0)),
+    )
 
 -- refusal 15: "a row is asked for and remains, but the first doesn't fit"
 pub none-returned : (size from width : ℕ) (columns : List Column) (asked : ℕ) (r : Row) (rows : List Row) → from ≤ size → 0 < asked

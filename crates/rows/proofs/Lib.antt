@@ -12,4 +12,3 @@ pub mod Pick
 pub mod Inner
 pub mod ReadBack
 pub mod Head
-pub mod Told

@@ -90,7 +90,7 @@ module _ (size from width base status : ℕ) (columns : List Column) (rows : Lis
   page-is t = lays-front (replicate size 0) (drop size t) (pageSpans size from width base status columns rows) in-reply
 
   module _ (t : List ℕ) (long : size ≤ length t) where
-    in-buffer : Each (Inside (length (cleared size t))) (pageSpans size from width base status columns rows)
+    pub in-buffer : Each (Inside (length (cleared size t))) (pageSpans size from width base status columns rows)
     in-buffer =
         each-map (Inside size) (Inside (length (cleared size t))) (pageSpans size from width base status columns rows)
         (λ a h. omega (arith, cleared-length size t long)) page-inside

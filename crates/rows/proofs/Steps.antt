@@ -6,7 +6,7 @@ use native.Mathlib.Nat.{not-suc-le-zero, suc-mul}
 use native.Mathlib.Numerals.{add-one, sub-one}
 use native.Mathlib.Omega.{arith}
 use borrow.Author.Tests.{le-leb, lt-leb}
-use lib.ListN.{length, getD, drop, drop-of-length-le}
+use lib.ListN.{length, getD, take, drop, drop-of-length-le}
 use lib.Seq.{drop-cons}
 use Rattle.catalogue.specs.Plain.{Row}
 use Rattle.catalogue.specs.Places.{rowSeen}
@@ -88,16 +88,7 @@ unfolding rowsSpans
 rows-spans-more t base width row top columns r rows =
     lays-join t (rowSpans base row top columns r) (rowsSpans base width (row + width) (top - blocks columns r) columns rows)
 
-pub rows-end : (s places numbers : List ℕ) (i : ℕ) → length numbers ≤ i → (t : List ℕ) (base width row top : ℕ) (columns : List Column)
-    → lays t (rowsSpans base width row top columns (rowsAt s places (drop i numbers))) ≡ t
-unfolding rowsSpans lays
-rows-end s places numbers i h t base width row top columns = rw (rows-none s places numbers i h)
-
 -- the room that rows take is their widths and their blocks
-pub needs-more : (width : ℕ) (columns : List Column) (r : Row) (rows : List Row) → needed width columns (r ∷ rows) ≡ width + blocks columns r + needed width columns rows
-unfolding needed
-needs-more width columns r rows = refl
-
 pub needs-are : (width : ℕ) (columns : List Column) (rows : List Row) → needed width columns rows ≡ length rows * width + allBlocks columns rows
 unfolding needed allBlocks
 needs-are width columns [] = omega arith
@@ -115,20 +106,6 @@ module _ (s places numbers : List ℕ) (i at : ℕ) (inside : i < length numbers
   row-is = rows-more s places numbers i inside ∙ ap (λ (k : ℕ). rowSeen s k ∷ rowsAt s places (drop (i + 1) numbers)) (sym is)
 
   module _ (width : ℕ) (columns : List Column) where
-    pub needs-step : needed width columns (rowsAt s places (drop i numbers))
-        ≡ width + blocks columns (rowSeen s at) + needed width columns (rowsAt s places (drop (i + 1) numbers))
-    needs-step = ap (needed width columns) row-is ∙ needs-more width columns (rowSeen s at) (rowsAt s places (drop (i + 1) numbers))
-
-    pub rows-step : (t u : List ℕ) (base row top place : ℕ) → place ≡ top - blocks columns (rowSeen s at)
-        → u ≡ lays t (rowSpans base row top columns (rowSeen s at))
-        → lays u (rowsSpans base width (row + width) place columns (rowsAt s places (drop (i + 1) numbers)))
-        ≡ lays t (rowsSpans base width row top columns (rowsAt s places (drop i numbers)))
-    rows-step t u base row top place ep eu =
-        rw (eu, ep)
-        (sym
-        (ap (λ rows. lays t (rowsSpans base width row top columns rows)) row-is
-        ∙ rows-spans-more t base width row top columns (rowSeen s at) (rowsAt s places (drop (i + 1) numbers))))
-
     pub count-full : (asked room : ℕ) → room < width + blocks columns (rowSeen s at) → returned width columns asked room (rowsAt s places (drop i numbers)) ≡ 0
     count-full asked room h =
         ap (returned width columns asked room) row-is ∙ returned-full width columns asked room (rowSeen s at) (rowsAt s places (drop (i + 1) numbers)) h
@@ -146,3 +123,58 @@ module _ (s places numbers : List ℕ) (i at : ℕ) (inside : i < length numbers
 
         one : asked - i - 1 ≡ asked - (i + 1)
         one = omega arith
+
+    pub count-step : (asked room need left : ℕ) → i < asked → need ≡ width + blocks columns (rowSeen s at) → need ≤ room → left ≡ room - need
+        → returned width columns (asked - i) room (rowsAt s places (drop i numbers))
+        ≡ suc (returned width columns (asked - (i + 1)) left (rowsAt s places (drop (i + 1) numbers)))
+    count-step asked room need left h e f el =
+        count-more asked room need h e f
+        ∙ ap (λ (n : ℕ). suc (returned width columns (asked - (i + 1)) n (rowsAt s places (drop (i + 1) numbers)))) (sym el)
+
+    -- one row more is laid, with those that the rest will give
+    pub lay-step : (asked room need : ℕ) → i < asked → need ≡ width + blocks columns (rowSeen s at) → need ≤ room
+        → (t u : List ℕ) (base row top place left : ℕ) → place ≡ top - blocks columns (rowSeen s at)
+        → u ≡ lays t (rowSpans base row top columns (rowSeen s at)) → left ≡ room - need
+        → lays u (rowsSpans base width (row + width) place columns
+        (take (returned width columns (asked - (i + 1)) left (rowsAt s places (drop (i + 1) numbers))) (rowsAt s places (drop (i + 1) numbers))))
+        ≡ lays t (rowsSpans base width row top columns
+        (take (returned width columns (asked - i) room (rowsAt s places (drop i numbers))) (rowsAt s places (drop i numbers))))
+    lay-step asked room need h e f t u base row top place left ep eu el =
+        rw (eu, ep, el)
+        (sym
+        (ap (λ (n : ℕ). lays t (rowsSpans base width row top columns (take n (rowsAt s places (drop i numbers))))) (count-more asked room need h e f)
+        ∙ ap (λ (rows : List Row). lays t (rowsSpans base width row top columns (take (suc more) rows))) row-is
+        ∙ rows-spans-more t base width row top columns (rowSeen s at) (take more (rowsAt s places (drop (i + 1) numbers)))))
+      where
+        more : ℕ
+        more = returned width columns (asked - (i + 1)) (room - need) (rowsAt s places (drop (i + 1) numbers))
+
+-- all rows are laid
+pub lay-end : (t : List ℕ) (base width row top : ℕ) (columns : List Column) (rows : List Row) (k : ℕ) → k ≡ 0
+    → lays t (rowsSpans base width row top columns (take k rows)) ≡ t
+unfolding rowsSpans lays
+lay-end t base width row top columns rows k e = rw e
+
+pub lay-done : (width : ℕ) (columns : List Column) (t t₀ : List ℕ) (base row top from size k sent total : ℕ) (rest all : List Row)
+    → k ≡ 0 → total ≡ sent + k
+    → lays t (rowsSpans base width row top columns (take k rest)) ≡ lays t₀ (rowsSpans base width from size columns (take total all))
+    → (sent ≡ total) × (t ≡ lays t₀ (rowsSpans base width from size columns (take sent all)))
+lay-done width columns t t₀ base row top from size k sent total rest all z c e = (
+  same,
+  sym (lay-end t base width row top columns rest k z)
+      ∙ e
+      ∙ ap (λ (n : ℕ). lays t₀ (rowsSpans base width from size columns (take n all))) (sym same),
+)
+  where
+    same : sent ≡ total
+    same = omega (arith, z, c)
+
+-- at the start no row is laid
+pub lay-start : (width : ℕ) (columns : List Column) (t : List ℕ) (base from size asked room : ℕ) (rows : List Row)
+    → lays t (rowsSpans base width from size columns (take (returned width columns (asked - 0) room rows) rows))
+    ≡ lays t (rowsSpans base width from size columns (take (returned width columns asked room rows) rows))
+lay-start width columns t base from size asked room rows =
+    ap (λ (n : ℕ). lays t (rowsSpans base width from size columns (take (returned width columns n room rows) rows))) all
+  where
+    all : asked - 0 ≡ asked
+    all = omega arith

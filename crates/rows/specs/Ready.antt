@@ -7,12 +7,13 @@ use lib.ListN.{length, getD}
 use Rattle.catalogue.specs.Limits.{rowsMost}
 use Rattle.catalogue.specs.Plain.{Row}
 use Rattle.catalogue.specs.Places.{RowThere, rowSeen}
+use Rattle.catalogue.specs.declared.Fields.{Fields}
 use Rattle.columns.specs.Column.{roomWords, columnsMost, columnAt, columnsOf}
-use Rattle.columns.specs.Fit.{fit}
+use Rattle.columns.specs.Fit.{rowMost, fit}
 use Rattle.columns.specs.declared.Column.{Column}
 use Rattle.cells.specs.Cell.{offsetWidth}
-use Rattle.cells.specs.Stands.{ColumnIn}
-use Rattle.rows.specs.Page.{blocks, allBlocks}
+use Rattle.cells.specs.Stands.{fieldsSeen, ColumnIn}
+use Rattle.rows.specs.Page.{blocks}
 
 -- the words of at most five columns
 pub record Words (words : List ℕ) (bound : ℕ) : Type 0 where
@@ -39,29 +40,31 @@ unfoldable pub needed : ℕ → List Column → List Row → ℕ
 needed width columns [] = 0
 needed width columns (r ∷ rows) = width + blocks columns r + needed width columns rows
 
--- a row in a reply of n bytes
-pub record RowReady (n : ℕ) (s : List ℕ) (at : ℕ) (words : List ℕ) (bound base row top : ℕ) : Type 0 where
-  pub there : RowThere s at
+-- a row in a reply of n bytes, its fields as they stand at a place
+pub record RowReady (n : ℕ) (s : List ℕ) (at : ℕ) (fields : Fields) (words : List ℕ) (bound base row top : ℕ) : Type 0 where
+  pub read : fields ≡ fieldsSeen s at
   pub given : Words words bound
   pub columns : ColumnsIn n row words bound
   pub room : blocks (columnsOf bound words) (rowSeen s at) ≤ top
   pub ends : top ≤ n
   pub offset : base + top < 256 ^ offsetWidth
 
--- rows in a reply of n bytes
-pub record RowsReady (n : ℕ) (words : List ℕ) (bound width : ℕ) (rows : List Row) (base row top : ℕ) : Type 0 where
+-- rows in a reply of n bytes, from a place on, with their blocks below another
+pub record RowsReady (n : ℕ) (words : List ℕ) (bound width base from size : ℕ) : Type 0 where
   pub given : Words words bound
+  pub narrow : width ≤ rowMost
   pub columns : ColumnsIn width 0 words bound
-  pub room : row + needed width (columnsOf bound words) rows ≤ top
-  pub ends : top ≤ n
-  pub offset : base + top < 256 ^ offsetWidth
+  pub inside : from ≤ size
+  pub ends : size ≤ n
+  pub offset : base + size < 256 ^ offsetWidth
 
--- a whole reply in a buffer of n bytes: fit bindings, rows that fit, and "_ulClientBase + B" not "above 4,294,967,295"
-pub record PageReady (n : ℕ) (words : List ℕ) (bound width : ℕ) (rows : List Row) (size from base : ℕ) : Type 0 where
+-- a whole reply in a buffer of n bytes: fit bindings, no more numbers than a catalogue has rows, and "_ulClientBase + B" not
+-- "above 4,294,967,295"
+pub record PageReady (n : ℕ) (words : List ℕ) (bound width count size from base : ℕ) : Type 0 where
   pub long : length words ≡ roomWords
   pub fits : fit width (columnsOf bound words) ≡ true
   pub head : 32 ≤ from
-  pub few : length rows ≤ rowsMost
-  pub room : from + length rows * width + allBlocks (columnsOf bound words) rows ≤ size
+  pub few : count ≤ rowsMost
+  pub inside : from ≤ size
   pub ends : size ≤ n
   pub offset : base + size < 256 ^ offsetWidth

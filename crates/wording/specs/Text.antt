@@ -1,4 +1,4 @@
--- The text of answers: numbers, bytes, and what the reply buffer was filled with.
+-- The text of answers: numbers, bytes, and what the reply buffer was filled with (README, "Replaying recorded calls").
 use mathlib.Core.Path.{_≡_}
 use mathlib.Core.Bool.{Bool, true, false}
 use mathlib.Core.List.{List, [], _∷_}
@@ -30,7 +30,7 @@ unfoldable pub hexPairs : List ℕ → List ℕ
 hexPairs [] = []
 hexPairs (b ∷ s) = glyph (b / 16) ∷ glyph (b % 16) ∷ hexPairs s
 
--- "HEX: the COUNT bytes written, upper case, or - for none"
+-- "HEX the COUNT bytes written, upper case"; "`-` for no bytes"
 unfoldable pub hexText : List ℕ → List ℕ
 hexText [] = 45 ∷ []
 hexText (b ∷ s) = hexPairs (b ∷ s)

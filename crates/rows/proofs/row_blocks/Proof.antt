@@ -16,28 +16,25 @@ use Rattle.rows.proofs.Found.{room-small, fields-stand, fields-row}
 use Rattle.rows.proofs.Steps.{blocks-more, blocks-none}
 
 abbrev Inv-loop : tie.InvT-loop
-Inv-loop s at words bound fields total₀ k₀ left₀ total k left = (k + left ≡ bound) × (total ≤ blockMost * k) × (blocks (columnsOf bound words) (rowOf s fields) ≡ total + blocks (columnsFrom left k words) (rowOf s fields))
+Inv-loop s at fields words bound total₀ k₀ left₀ total k left = (k + left ≡ bound) × (total ≤ blockMost * k) × (blocks (columnsOf bound words) (rowOf s fields) ≡ total + blocks (columnsFrom left k words) (rowOf s fields))
 
 abbrev μ-loop : tie.MeasureT-loop
-μ-loop s at words bound fields total₀ k₀ left₀ total k left = left
-
-fields-at-requires : tie.Need-fields-at-requires Inv-loop μ-loop
-fields-at-requires c κs = c .before .before .pre .1
+μ-loop s at fields words bound total₀ k₀ left₀ total k left = left
 
 loop-holds : tie.Need-loop-holds Inv-loop μ-loop
 loop-holds c = (omega arith, omega arith, omega arith)
 
 column-at-requires : tie.Need-column-at-requires Inv-loop μ-loop
-column-at-requires c κs = let p = c .before .before .before .before .before .pre .0 in (p .long, omega (arith, p .few))
+column-at-requires c κs = let p = c .before .before .before .before .pre .0 in (p .long, omega (arith, p .few))
 
 block-room-requires : tie.Need-block-room-requires Inv-loop μ-loop
-block-room-requires c κs = let a = c .before .before .before .before .before .before .args in
-    stand-small (a .s .now) (c .before .before .before .fields-at .result) (fields-stand (a .s .now) (a .at) (c .before .before .before .fields-at .result) (c .before .before .before .fields-at .ensures))
+block-room-requires c κs = let a = c .before .before .before .before .before .args in
+    stand-small (a .s .now) ((a .fields)) (fields-stand (a .s .now) (a .at) ((a .fields)) (c .before .before .before .before .before .pre .1))
 
 add-total : tie.Need-add-total Inv-loop μ-loop
-add-total c = let a = c .before .before .before .before .before .before .before .args in let f = c .before .before .before .before .fields-at .result in
-    let st = fields-stand (a .s .now) (a .at) f (c .before .before .before .before .fields-at .ensures) in
-    omega (arith, c .block-room .ensures (a .s .now) st, room-small (a .s .now) f (c .before .column-at .result) st, c .before .before .before .before .before .before .before .pre .0 .few)
+add-total c = let a = c .before .before .before .before .before .before .args in let f = a .fields in
+    let st = fields-stand (a .s .now) (a .at) f (c .before .before .before .before .before .before .pre .1) in
+    omega (arith, c .block-room .ensures (a .s .now) st, room-small (a .s .now) f (c .before .column-at .result) st, c .before .before .before .before .before .before .pre .0 .few)
 
 add-k : tie.Need-add-k Inv-loop μ-loop
 add-k c = search needs
@@ -49,14 +46,14 @@ loop-less : tie.Need-loop-less Inv-loop μ-loop
 loop-less c = search needs
 
 loop-again : tie.Need-loop-again Inv-loop μ-loop
-loop-again c = let a = c .before .before .before .before .before .before .before .args in let f = c .before .before .before .before .fields-at .result in let l = c .before .before .before .loop in let r = rowOf (a .s .now) f in
-    let st = fields-stand (a .s .now) (a .at) f (c .before .before .before .before .fields-at .ensures) in
+loop-again c = let a = c .before .before .before .before .before .before .args in let f = a .fields in let l = c .before .before .before .loop in let r = rowOf (a .s .now) f in
+    let st = fields-stand (a .s .now) (a .at) f (c .before .before .before .before .before .before .pre .1) in
     let room = c .block-room .ensures (a .s .now) st ∙ ap (λ (d : Column). blockRoom d r) (c .before .column-at .ensures) in
     (omega arith, omega (arith, c .block-room .ensures (a .s .now) st, room-small (a .s .now) f (c .before .column-at .result) st), omega (arith, l .inv .2, room, blocks-more (l .left) (l .k) (a .words .now) r (c .before .before .loop-test .taken)))
 
 returns : tie.Need-returns Inv-loop μ-loop
-returns c = let a = c .before .before .before .before .before .args in let f = c .before .before .fields-at .result in let l = c .before .loop in
-    (rw (← (fields-row (a .s .now) (a .at) f (c .before .before .fields-at .ensures))) (omega (arith, l .inv .2, blocks-none (l .left) (l .k) (a .words .now) (rowOf (a .s .now) f) (omega arith))), omega (arith, c .before .before .before .before .before .pre .0 .few))
+returns c = let a = c .before .before .before .before .args in let f = a .fields in let l = c .before .loop in
+    (rw (← (fields-row (a .s .now) (a .at) f (c .before .before .before .before .pre .1))) (omega (arith, l .inv .2, blocks-none (l .left) (l .k) (a .words .now) (rowOf (a .s .now) f) (omega arith))), omega (arith, c .before .before .before .before .pre .0 .few))
 
 pub row-blocks-spec : {M : Type 1} → statement M
 row-blocks-spec =
@@ -64,7 +61,6 @@ row-blocks-spec =
     (tie.spec
     Inv-loop
     μ-loop
-    fields-at-requires
     loop-holds
     column-at-requires
     block-room-requires
