@@ -1,26 +1,23 @@
 -- What an open cursor's words are known to be before rows are fetched. Assumes nothing.
 use mathlib.Core.Path.{_≡_, refl, sym, ap, ap₂, subst, _∙_}
 use mathlib.Core.Bool.{Bool, true}
-use mathlib.Core.List.{List, [], _∷_, _++_, map}
+use mathlib.Core.List.{List, [], _∷_}
 use mathlib.Core.Logic.{⊎-elim}
 use mathlib.Core.Option.{some}
 use Prim.Native.Nat.{ℕ, zero, suc, _+_, _-_, _≤_, _<_}
 use native.Mathlib.Nat.{not-suc-le-zero, le-of-suc-le-suc}
 use native.Mathlib.Omega.{arith}
-use borrow.Author.Tests.{leb-true, ltb-true, eq-eqb}
-use lib.Dec.{leb, ltb, eqb}
+use borrow.Author.Tests.{ltb-true, eq-eqb}
+use lib.Dec.{ltb}
 use lib.ListN.{length, getD, take, drop, length-drop}
 use lib.Seq.{take-take, take-all, drop-drop, getD-take, getD-drop}
-use Rattle.words.specs.Below.{both}
 use Rattle.words.proofs.Below.{both-left, both-right, both-true}
 use Rattle.catalogue.specs.Plain.{Row, catalogue}
 use Rattle.catalogue.specs.Places.{RowThere, rowSeen}
-use Rattle.columns.specs.Column.{columnsMost}
 use Rattle.columns.specs.Each.{every}
-use Rattle.columns.specs.Property.{within}
-use Rattle.columns.specs.Fit.{rowMost, columnsFit, fit}
+use Rattle.columns.specs.Fit.{rowMost, fit}
 use Rattle.sessions.specs.Layout.{cursorSize, rowsSize, recordsAt, recordsSize, part}
-use Rattle.sessions.specs.Seat.{Cursor, cursorBlock, cursorHeld}
+use Rattle.sessions.specs.Seat.{cursorHeld}
 use Rattle.sessions.proofs.Seats.{cursor-block}
 use Rattle.sessions.proofs.Tables.{part-length}
 use Rattle.columns.proofs.Sound.{fit-sound}

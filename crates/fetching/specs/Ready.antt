@@ -7,7 +7,7 @@ use Prim.Native.Nat.{ℕ, _≤_, _<_}
 use lib.ListN.{length, getD, drop}
 use Rattle.catalogue.specs.Plain.{Row, catalogue}
 use Rattle.catalogue.specs.Places.{RowThere, rowSeen}
-use Rattle.sessions.specs.Seat.{Cursor, cursorBlock, cursorHeld}
+use Rattle.sessions.specs.Seat.{cursorBlock, cursorHeld}
 use Rattle.sessions.specs.Well.{cursorBelow}
 use Rattle.sessions.specs.Fits.{CursorFits}
 use Rattle.requests.specs.declared.Request.{Request}

@@ -1,8 +1,8 @@
 -- How digits are read one after the other. Assumes nothing.
 use mathlib.Core.Path.{_≡_, refl, sym, ap, _∙_}
-use mathlib.Core.Bool.{Bool, true, false}
+use mathlib.Core.Bool.{true, false}
 use mathlib.Core.List.{List, [], _∷_, _++_}
-use mathlib.Core.Option.{Option, none, some}
+use mathlib.Core.Option.{none, some}
 use Prim.Native.Nat.{ℕ, zero, suc, _+_, _-_, _*_, _/_, _≤_, _<_}
 use native.Mathlib.Numerals.{add-one}
 use native.Mathlib.Omega.{arith}
@@ -10,9 +10,9 @@ use lib.Dec.{eqb, leb}
 use lib.ListN.{length, getD, take, drop, set, drop-of-length-le}
 use lib.Seq.{drop-cons, set-at, take-suc, append-snoc, length-take-le}
 use borrow.Author.Tests.{eq-eqb, ne-eqb, le-leb, lt-leb}
-use Rattle.words.specs.Below.{pick, both}
+use Rattle.words.specs.Below.{both}
 use Rattle.words.proofs.Below.{by-test}
-use Rattle.lexing.specs.Digits.{spelled, numberMost, within, isHex, isHexDigit, hexDigit, isDash, pairByte, hexBytes}
+use Rattle.lexing.specs.Digits.{spelled, numberMost, within, isHex, hexDigit, isDash, pairByte, hexBytes}
 
 -- a value past the limit stays past it
 pub stays-past : (s : List ℕ) (v : ℕ) → numberMost < v → within (spelled v s) ≡ none

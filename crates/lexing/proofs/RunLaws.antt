@@ -1,5 +1,5 @@
 -- How a run of bytes grows and ends, and when two lists are the same bytes. Assumes nothing.
-use mathlib.Core.Path.{_≡_, refl, sym, ap, _∙_}
+use mathlib.Core.Path.{_≡_, refl, ap}
 use mathlib.Core.Bool.{Bool, true, false}
 use mathlib.Core.List.{List, [], _∷_}
 use Prim.Native.Nat.{ℕ, suc, _+_, _≤_, _<_}
@@ -9,8 +9,8 @@ use lib.Dec.{eqb}
 use lib.ListN.{length, getD, drop, drop-of-length-le}
 use lib.Seq.{drop-cons}
 use borrow.Author.Tests.{eq-eqb, ne-eqb}
-use Rattle.words.specs.Below.{pick, both, either}
-use Rattle.lexing.specs.Runs.{run, opposite, separates, sameBytes}
+use Rattle.words.specs.Below.{both}
+use Rattle.lexing.specs.Runs.{run, sameBytes}
 
 -- a byte of the kind is one more
 pub run-more : (kind : ℕ → Bool) (s : List ℕ) (i : ℕ) → i < length s → kind (getD s i 0) ≡ true → i + run kind (drop i s) ≡ (i + 1) + run kind (drop (i + 1) s)

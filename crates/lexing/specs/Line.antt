@@ -1,15 +1,13 @@
 -- The call that a line of a calls file is, its comment cut off, or why it is none (README, "Replaying recorded calls"). Words are judged from left to right, each fully before the next:
 -- that it is there, its form, its limit; and after the last, that no further word is there.
-use mathlib.Core.Bool.{Bool}
 use mathlib.Core.List.{List, [], _∷_}
 use mathlib.Core.Option.{Option, none, some}
-use Prim.Native.Nat.{ℕ, _+_, _-_, _/_, _≤_}
+use Prim.Native.Nat.{ℕ, _-_, _/_, _≤_}
 use lib.Dec.{eqb, ltb}
 use lib.ListN.{length, take, drop}
 use Rattle.words.specs.Below.{pick}
 use Rattle.lexing.specs.Runs.{wordStart, wordEnd, sameBytes}
 use Rattle.lexing.specs.Digits.{decimal, isDash, isHex}
-use Rattle.lexing.specs.declared.Reason.{Reason}
 use Rattle.lexing.specs.declared.Reason.the-variants.{UnknownCall, MissingWord, ExtraWord, BadNumber, BadHex, TooLong, NoSuchWord}
 use Rattle.lexing.specs.declared.Number.{Number}
 use Rattle.lexing.specs.declared.Number.the-variants as number

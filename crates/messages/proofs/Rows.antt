@@ -1,31 +1,30 @@
 -- Getting rows: the causes of its body, and what it leaves where none applies. Assumes nothing.
 use mathlib.Core.Path.{_≡_, refl, sym, ap, ap₂, subst, _∙_}
 use mathlib.Core.Bool.{true, false}
-use mathlib.Core.List.{List, [], _∷_, _++_}
+use mathlib.Core.List.{List, _++_}
 use mathlib.Core.Option.{Option, none, some}
 use Prim.Native.Nat.{ℕ, _+_, _-_, _≤_, _<_}
 use native.Mathlib.Omega.{arith}
 use lib.Dec.{eqb}
 use lib.ListN.{length, take, drop, take-append-drop}
-use Rattle.words.specs.Below.{pick}
 use Rattle.words.proofs.Below.{by-test, both-left, both-right}
 use Rattle.words.proofs.Options.{none≢some, some-is}
-use Rattle.catalogue.specs.Plain.{Row, catalogue}
+use Rattle.catalogue.specs.Plain.{catalogue}
 use Rattle.spans.specs.Laid.{lay, fourWords}
 use Rattle.sessions.specs.Layout.{cursorSize, cursorPlace, part, put}
-use Rattle.sessions.specs.Seat.{Cursor, Seat, cursorBlock, cursorHeld, cursorOf, seatBlock, seatIn, seatOf, cursorIn, withCursor}
+use Rattle.sessions.specs.Seat.{Cursor, Seat, cursorBlock, cursorHeld, seatIn, seatOf, cursorIn}
 use Rattle.sessions.specs.Well.{cursorBelow, seatBelow}
 use Rattle.sessions.specs.Fits.{CursorFits, CursorOk}
 use Rattle.sessions.proofs.Seats.{cursor-block}
 use Rattle.sessions.proofs.Judging.{part-is}
-use Rattle.requests.specs.Request.{request, Sound}
+use Rattle.requests.specs.Request.{request}
 use Rattle.requests.specs.declared.Request.{Request}
 use Rattle.requests.proofs.Ranges.{request-sound, request-handle}
 use Rattle.fetching.specs.Fetch.{fetchCauses, fetchReply, fetched}
 use Rattle.fetching.specs.Ready.{rowsOf, FetchReady, Fetched}
 use Rattle.fetching.proofs.Fetching.{reply-length, fetch-small}
 use Rattle.refusals.specs.Refusal.{firstCause, statusOf}
-use Rattle.messages.specs.Message.{handleOf, isOpen, bodyCauses, rowsDone, doneOn, refusedOn, seatMessage}
+use Rattle.messages.specs.Message.{handleOf, isOpen, bodyCauses, rowsDone, refusedOn, seatMessage}
 use Rattle.messages.specs.Answers.{Admitted, Sourced, Answers}
 use Rattle.messages.specs.declared.Answered.{Answered}
 use Rattle.messages.proofs.Answering.{held, block-is, seat-is, seat-fits, refused-answers, body-refused, body-done}

@@ -6,11 +6,11 @@ use mathlib.Core.Option.{Option, none, some}
 use Prim.Native.Nat.{ℕ, _+_, _%_, _≤_, _<_}
 use native.Mathlib.Omega.{arith}
 use borrow.Author.Tests.{le-leb, lt-leb, leb-true, eq-eqb, ne-eqb}
-use lib.Dec.{leb, eqb}
+use lib.Dec.{leb}
 use lib.ListN.{length}
 use Rattle.words.specs.Below.{both}
 use Rattle.words.specs.Word.{numberAt}
-use Rattle.words.proofs.Below.{by-test, both-left, both-right, both-stop}
+use Rattle.words.proofs.Below.{by-test, both-left, both-right}
 use Rattle.words.proofs.Options.{none≢some, some-is}
 use Rattle.requests.specs.Request.{handleAt, leastSize, reservedAt, sizeAt, baseAt, backwardAt, seekAt, seekSizeAt, sized, inRange, seekFits, asked, wellFormed, request, Sound}
 use Rattle.requests.specs.declared.Request.{Request}

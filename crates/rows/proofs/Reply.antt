@@ -95,10 +95,6 @@ module _ (size from width base status : ℕ) (columns : List Column) (rows : Lis
         each-map (Inside size) (Inside (length (cleared size t))) (pageSpans size from width base status columns rows)
         (λ a h. omega (arith, cleared-length size t long)) page-inside
 
-    pub page-length : length (page size from width base status columns rows t) ≡ length t
-    unfolding page
-    page-length = lays-length (cleared size t) (pageSpans size from width base status columns rows) in-buffer ∙ cleared-length size t long
-
     -- each span is read back
     pub page-reads : Each (λ a. part (length (a .bytes)) (a .place) (page size from width base status columns rows t) ≡ a .bytes) (pageSpans size from width base status columns rows)
     unfolding page

@@ -18,7 +18,7 @@ use Rattle.numbers.specs.declared.Reading.the-variants.{Number, Malformed}
 use Rattle.numbers.proofs.Inside.{reading-read}
 use Rattle.catalogue.specs.Limits.{rowsMost, bytesMost}
 use Rattle.catalogue.specs.Plain.{Row}
-use Rattle.catalogue.specs.Places.{withNumber, rowAt, rowsEnd, rowSeen, malformed, counted as checkCounted, checked, places, noted}
+use Rattle.catalogue.specs.Places.{withNumber, RowThere, rowAt, rowsEnd, rowSeen, malformed, counted as checkCounted, checked, places, noted}
 use Rattle.catalogue.specs.declared.Fields.{Fields}
 use Rattle.catalogue.specs.declared.Checked.{Checked}
 use Rattle.catalogue.specs.declared.RowAt.the-variants.{RowTo, NoRow}
@@ -31,7 +31,7 @@ use Rattle.restriction.specs.Answer.{treeAnswer}
 use Rattle.restriction.specs.declared.TreeAnswer.the-variants.{Holds, Malformed as NoTree}
 use Rattle.select.specs.Select.{numbersFrom, heldBy, selectedBy, selected, Selected}
 use Rattle.select.proofs.Selection.{numbers-few}
-use Rattle.select.specs.Noted.{Noted, Stands}
+use Rattle.select.specs.Noted.{Noted}
 
 -- a row that was read has its texts inside, and is the row that is seen at its place
 pub row-inside : (s : List ℕ) (at : ℕ) (f : Fields) (next : ℕ) → rowAt s at ≡ RowTo f next → RowInside s f
@@ -44,7 +44,7 @@ row-inside s at f next e =
       note = record { small = n .small; inside = omega (arith, n .ends, n .inside) };
     }
 
-pub no-row : {A : Type 0} (s : List ℕ) (at : ℕ) → Stands s at → rowAt s at ≡ NoRow → A
+pub no-row : {A : Type 0} (s : List ℕ) (at : ℕ) → RowThere s at → rowAt s at ≡ NoRow → A
 no-row s at w e = let z : _≡_ {A = ℕ} 0 1 = cc (w .2, e) in absurd (omega arith)
 
 -- what the tree's answer says of a row
@@ -89,7 +89,7 @@ module _ (s : List ℕ) (rows : ℕ) (held : List ℕ) (n : Noted s rows held) w
   pub noted-at : (i : ℕ) → i < rows → getD held i 0 ≡ getD (places s) i 0
   noted-at i h = sym (getD-take rows held i 0 h) ∙ ap (λ (p : List ℕ). getD p i 0) (n .noted)
 
-  pub stands : (i : ℕ) → i < rows → Stands s (getD held i 0)
+  pub stands : (i : ℕ) → i < rows → RowThere s (getD held i 0)
   stands i h = rw (noted-at i h) (row-stands s well-formed i (rw (n .well) h))
 
   -- the rows that are left, where there are some: the next one is selected or not, and then the others

@@ -3,16 +3,16 @@ ghost use mathlib.Core.Path.{_≡_};
 ghost use Prim.Native.Nat.{_≤_};
 ghost use lib.ListN.{length};
 ghost use Rattle.catalogue.specs.Limits.{rowsMost};
-ghost use Rattle.catalogue.specs.Places.{rowSeen};
+ghost use Rattle.catalogue.specs.Places.{RowThere, rowSeen};
 ghost use Rattle.restriction.specs.Reader.{restriction};
 ghost use Rattle.select.specs.Select.{heldBy, Selected};
-ghost use Rattle.select.specs.Noted.{Noted, Stands};
+ghost use Rattle.select.specs.Noted.{Noted};
 use catalogue::RowAt;
 use restriction::TreeAnswer;
 
 // Whether the tree holds for the row at a place.
 fn holds_at(tree: &[u8], catalogue: &[u8], place: u32) -> bool
-    requires { ⌜ Stands (now catalogue) place ⌝ }
+    requires { ⌜ RowThere (now catalogue) place ⌝ }
     ensures { λ r. ⌜ r ≡ heldBy (restriction (now (tree .entry))) (rowSeen (now (catalogue .entry)) place) ⌝ }
 {
     let RowAt::RowTo(row, _) = catalogue::row_again(catalogue, place as usize) else {

@@ -1,15 +1,14 @@
 -- Where each hex digit stands, and how a change is found. Assumes nothing.
-use mathlib.Core.Path.{_≡_, refl, sym, ap, _∙_}
+use mathlib.Core.Path.{_≡_, refl}
 use mathlib.Core.Bool.{Bool, true, false}
 use mathlib.Core.List.{List, [], _∷_}
 use Prim.Native.Nat.{ℕ, zero, suc, _+_, _*_, _/_, _%_, _≤_, _<_}
 use native.Mathlib.Numerals.{add-one}
 use native.Mathlib.Omega.{arith}
-use lib.Dec.{eqb}
 use lib.ListN.{length, getD, drop, set, drop-of-length-le}
 use lib.Seq.{drop-cons, paste, paste-suc}
 use borrow.Author.Tests.{eq-eqb, ne-eqb}
-use Rattle.words.specs.Below.{pick, either}
+use Rattle.words.specs.Below.{either}
 use Rattle.wording.specs.Text.{glyph, hexPairs, hexText, fillByte, changed}
 
 pub pairs-length : (s : List ℕ) → length (hexPairs s) ≡ 2 * length s

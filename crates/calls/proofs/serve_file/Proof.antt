@@ -1,6 +1,5 @@
 -- Between two reads the buffers have their lengths, and the place stands. Assumes nothing.
 use mathlib.Core.Path.{_≡_}
-use native.Mathlib.Omega.{arith}
 use lib.ListN.{length}
 use Rattle.calls.specs.Room.{Stands}
 use borrow.Author.Needs.{needs}

@@ -2,8 +2,7 @@
 use borrow.Author.Needs.{needs}
 use Rattle.catalogue.proofs.text_again.Statement.{statement}
 use Rattle.catalogue.proofs.text_again.Tie as tie
-use mathlib.Core.Path.{_≡_, sym, ap, _∙_}
-use Prim.Native.Nat.{ℕ}
+use mathlib.Core.Path.{sym, ap, _∙_}
 use native.Mathlib.Omega.{arith}
 use Rattle.numbers.proofs.Inside.{reading-read}
 use Rattle.catalogue.specs.Places.{textAt}

@@ -3,9 +3,7 @@ use borrow.Author.Needs.{needs}
 use Rattle.catalogue.proofs.text_end.Statement.{statement}
 use Rattle.catalogue.proofs.text_end.Tie as tie
 use mathlib.Core.Path.{sym, _∙_}
-use mathlib.Core.Bool.{true, false}
 use native.Mathlib.Omega.{arith}
-use borrow.Author.Tests.{not-true}
 use Rattle.numbers.proofs.Inside.{reading-read}
 use Rattle.catalogue.specs.Places.{textAt}
 use Rattle.catalogue.proofs.TextLaws.{end-short, end-clear, end-zero}

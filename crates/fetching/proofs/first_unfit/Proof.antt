@@ -7,14 +7,11 @@ use Rattle.fetching.proofs.Judging.{none-asked, none-left, one-left, ro
 use Rattle.fetching.proofs.Facts.{size-is, count-most, position-most, words-ready, width-most, first-there, first-row}
 use Rattle.fetching.specs.Ready.{rowsOf}
 use Rattle.fetching.specs.Fetch.{remaining}
-use Rattle.rows.specs.Page.{blocks}
 use Rattle.sessions.specs.Seat.{cursorHeld}
-use Rattle.catalogue.specs.Places.{rowSeen}
 use Rattle.catalogue.specs.Plain.{catalogue}
-use lib.ListN.{getD}
 use lib.Dec.{ltb}
 use native.Mathlib.Omega.{arith}
-use Prim.Native.Nat.{ℕ, _+_, _-_}
+use Prim.Native.Nat.{ℕ, _+_}
 use mathlib.Core.Path.{sym, ap, _∙_}
 
 returns : tie.Need-returns

@@ -3,7 +3,6 @@ use borrow.Author.Needs.{needs}
 use Rattle.fetching.proofs.judge.Statement.{statement}
 use Rattle.fetching.proofs.judge.Tie as tie
 use Rattle.fetching.proofs.Judging.{no-bindings, other-width, unserved, all-served}
-use borrow.Author.Tests.{not-false}
 use mathlib.Core.Path.{sym, _∙_}
 
 shared-slice-read-if1 : tie.Need-shared-slice-read-if1

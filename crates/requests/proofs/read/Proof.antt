@@ -7,10 +7,7 @@ use Prim.Native.Nat.{ℕ}
 use Rattle.requests.proofs.Ranges.{short, unfit, seek-unfit, read-whole, reserved-small}
 use Rattle.requests.specs.Asking.{asking}
 use Rattle.requests.specs.Request.{asked}
-use Rattle.words.specs.Word.{numberAt}
-use lib.ListN.{length}
 use borrow.Author.Tests.{not-true, not-false}
-use native.Mathlib.Omega.{arith}
 use mathlib.Core.Path.{sym, ap, _∙_}
 
 returns : tie.Need-returns

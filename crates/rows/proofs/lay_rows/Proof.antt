@@ -10,7 +10,7 @@ use Rattle.columns.specs.Column.{columnAt, columnsOf}
 use lib.ListN.{length, take, drop}
 use native.Mathlib.Omega.{arith}
 use Prim.Native.Nat.{_+_, _-_, _≤_}
-use mathlib.Core.Path.{_≡_, refl, sym, _∙_}
+use mathlib.Core.Path.{_≡_, refl, _∙_}
 
 abbrev Inv-loop : tie.InvT-loop
 Inv-loop reply₀ s places numbers words bound width base from size asked row₀ top₀ sent₀ reply row top sent =

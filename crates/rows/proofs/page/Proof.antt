@@ -8,7 +8,6 @@ use Rattle.rows.proofs.Greatest.{returned-few}
 use Rattle.rows.proofs.Bound.{bound-few, bound-in}
 use Rattle.rows.specs.Page.{rowsAt, rowsMessage}
 use Rattle.columns.specs.Column.{columnsOf}
-use lib.ListN.{length}
 use native.Mathlib.Omega.{arith}
 use Rattle.spans.specs.Laid.{lay, header}
 use Prim.Native.Nat.{ℕ}

@@ -5,7 +5,6 @@ use Rattle.rows.proofs.room_of.Tie as tie
 use Rattle.rows.specs.Page.{blocks}
 use Rattle.columns.specs.Column.{columnsOf}
 use Rattle.catalogue.specs.Places.{RowThere, rowSeen}
-use native.Mathlib.Omega.{arith}
 use Prim.Native.Nat.{ℕ, _+_}
 use mathlib.Core.Path.{sym, ap, subst, _∙_}
 

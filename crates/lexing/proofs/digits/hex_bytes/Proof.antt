@@ -2,7 +2,7 @@
 use Rattle.lexing.proofs.digits.hex_bytes.Statement.{statement}
 use Rattle.lexing.proofs.digits.hex_bytes.Tie as tie
 use borrow.Author.Needs.{needs}
-use mathlib.Core.Path.{_≡_, refl, sym, ap, _∙_}
+use mathlib.Core.Path.{_≡_, refl, sym, _∙_}
 use mathlib.Core.List.{_++_}
 use Prim.Native.Nat.{_+_, _-_, _/_, _≤_}
 use native.Mathlib.Omega.{arith}

@@ -2,12 +2,12 @@
 use Rattle.lexing.proofs.runs.after_separators.Statement.{statement}
 use Rattle.lexing.proofs.runs.after_separators.Tie as tie
 use borrow.Author.Needs.{needs}
-use mathlib.Core.Path.{_≡_, refl, sym, ap, _∙_}
+use mathlib.Core.Path.{_≡_, refl, sym, _∙_}
 use Prim.Native.Nat.{_+_, _-_, _≤_}
 use native.Mathlib.Omega.{arith}
 use borrow.Author.Tests.{not-true, not-false}
 use lib.ListN.{length, drop}
-use Rattle.lexing.specs.Runs.{run, opposite, separates}
+use Rattle.lexing.specs.Runs.{run, separates}
 use Rattle.lexing.proofs.RunLaws.{run-more, run-stops, run-ends}
 
 abbrev Inv-loop : tie.InvT-loop

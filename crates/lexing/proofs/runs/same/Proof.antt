@@ -2,8 +2,8 @@
 use Rattle.lexing.proofs.runs.same.Statement.{statement}
 use Rattle.lexing.proofs.runs.same.Tie as tie
 use borrow.Author.Needs.{needs}
-use mathlib.Core.Path.{_≡_, refl, sym, ap, _∙_}
-use Prim.Native.Nat.{_+_, _-_, _≤_}
+use mathlib.Core.Path.{_≡_, refl, sym, _∙_}
+use Prim.Native.Nat.{_-_, _≤_}
 use native.Mathlib.Omega.{arith}
 use lib.ListN.{length, drop}
 use Rattle.lexing.specs.Runs.{sameBytes}
