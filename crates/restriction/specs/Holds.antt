@@ -1,6 +1,7 @@
 -- Which rows a tree holds for (01, "Restriction trees"). What a leaf says is apart from what a tree makes of it.
 use mathlib.Core.Bool.{Bool, true, false}
 use mathlib.Core.Bool as Truth
+use mathlib.Core.Option.{Option, none, some}
 use Prim.Native.Nat.{ℕ}
 use Rattle.words.specs.Below.{both, either}
 use Rattle.catalogue.specs.Plain.{Row}
@@ -30,3 +31,8 @@ tellsOf row position l = leafHolds row l
 
 abbrev pub holds : Tree → Row → Bool
 holds t row = says (tellsOf row) t
+
+-- whether a row is held by a tree, if there is one
+abbrev pub heldBy : Option Tree → Row → Bool
+heldBy none row = false
+heldBy (some t) row = holds t row

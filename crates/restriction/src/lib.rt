@@ -68,7 +68,7 @@ fn leaf_node(
 }
 
 // Whether a kind has a list of children.
-fn is_branch(kind: u32) -> bool
+pub fn is_branch(kind: u32) -> bool
     ensures { λ r. ⌜ r ≡ isBranch kind ⌝ }
 {
     if kind == AND {

@@ -1,0 +1,216 @@
+// Whether a tree holds for a row. The tree was judged before, so that nothing of it is judged again for each row: the words of its nodes
+// are read at their places.
+ghost use mathlib.Core.Path.{_≡_};
+ghost use mathlib.Core.Bool.{true};
+ghost use Prim.Native.Nat.{_+_, _^_, _≤_, _<_};
+ghost use lib.ListN.{length};
+ghost use Rattle.words.specs.Word.{halves};
+ghost use Rattle.catalogue.specs.Places.{textOf, rowOf};
+ghost use Rattle.leaves.specs.Property.{ofNumbers, ofTexts};
+ghost use Rattle.leaves.specs.Holds.{relationHolds, phraseHolds};
+ghost use Rattle.leaves.specs.Inside.{TextInside, RowInside};
+ghost use Rattle.restriction.specs.Holds.{heldBy};
+ghost use Rattle.restriction.specs.Reader.{restriction};
+ghost use Rattle.restriction.specs.Answer.{isTree};
+ghost use Rattle.holding.specs.Told.{told, turned, withChild, localeAt, relationTold, contentTold, leafTold};
+ghost use Rattle.holding.specs.There.{LeafThere, NodeThere, NodeTold, ListThere, ListTold};
+use catalogue::Fields;
+use catalogue::Text;
+
+const LEVELS_MOST: u32 = 8;
+
+// The kinds of a node that the code tells apart.
+const AND: u32 = 1;
+
+const NOT: u32 = 3;
+
+const CONTENT: u32 = 4;
+
+// The properties that the code tells apart.
+const KEY: u32 = 2;
+
+const LANGUAGE: u32 = 3;
+
+const LABEL: u32 = 5;
+
+// The bytes of a node before its child, and before a list of children.
+const HEAD_SIZE: usize = 8;
+
+const LIST_HEAD: usize = 12;
+
+// A node's answer in one number, since two would be passed in memory: twice the place after the node, and one more where it holds.
+fn told(holds: bool, end: usize) -> usize
+    requires { ⌜ end < 2 ^ 63 ⌝ }
+    ensures { λ r. ⌜ r ≡ told holds end ⌝ }
+{
+    let twice = 2 * end;
+    if holds {
+        return twice + 1;
+    }
+    twice
+}
+
+// The answer of a not, from that of its child.
+fn turned(answer: usize) -> usize
+    ensures { λ r. ⌜ r ≡ turned answer ⌝ }
+{
+    if answer % 2 == 1 {
+        return answer - 1;
+    }
+    answer + 1
+}
+
+// What an and or an or holds with one child more.
+fn with_child(kind: u32, before: bool, child: bool) -> bool
+    ensures { λ r. ⌜ r ≡ withChild kind before child ⌝ }
+{
+    if kind == AND {
+        return leaves::both(before, child);
+    }
+    if before {
+        return true;
+    }
+    child
+}
+
+// Whether the row's value has the relation to the tree's.
+fn relation_holds(relop: u32, mine: u64, yours: u64) -> bool
+    ensures { λ r. ⌜ r ≡ relationHolds relop mine yours ⌝ }
+{
+    match relop {
+        0 => mine < yours,
+        1 => mine <= yours,
+        2 => yours < mine,
+        3 => yours <= mine,
+        4 => mine == yours,
+        _ => mine != yours,
+    }
+}
+
+// The row's number that a property names.
+fn number_of(property: u32, row: Fields) -> u64
+    ensures { λ r. ⌜ r ≡ ofNumbers property (row .key) (row .language) (row .default) ⌝ }
+{
+    match property {
+        KEY => row.key,
+        LANGUAGE => row.language,
+        _ => row.default,
+    }
+}
+
+// The row's text that a property names.
+fn text_of(property: u32, row: Fields) -> Text
+    ensures { λ r. ⌜ r ≡ ofTexts property (row .label) (row .note) ⌝ }
+{
+    if property == LABEL {
+        return row.label;
+    }
+    row.note
+}
+
+// Whether a phrase occurs in a text.
+fn phrase_holds(phrase: &[u8], method: u32, catalogue: &[u8], text: Text) -> bool
+    requires { ⌜ TextInside (now catalogue) text ⌝ }
+    ensures { λ r. ⌜ r ≡ phraseHolds method (halves (now (phrase .entry))) (textOf (now (catalogue .entry)) text) ⌝ }
+{
+    if text.size == 0 {
+        return false;
+    }
+    phrase::occurs(catalogue::units(catalogue, text), phrase, method)
+}
+
+// The property leaf at a place.
+fn relation_told(s: &[u8], at: usize, row: Fields) -> usize
+    requires { ⌜ at + 44 ≤ length (now s) ⌝ }
+    ensures { λ r. ⌜ r ≡ relationTold (now (s .entry)) at row ⌝ }
+{
+    let relop = words::word(s, at + 8);
+    let property = words::word(s, at + 32);
+    let value = words::word(s, at + 40) as u64;
+    let mine = number_of(property, row);
+    told(relation_holds(relop, mine, value), at + 44)
+}
+
+// The content leaf at a place.
+fn content_told(s: &[u8], at: usize, catalogue: &[u8], row: Fields) -> usize
+    requires { ⌜ (localeAt (now s) at + 8 ≤ length (now s)) × RowInside (now catalogue) row ⌝ }
+    ensures { λ r. ⌜ r ≡ contentTold (now (s .entry)) at (now (catalogue .entry)) row ⌝ }
+{
+    let property = words::word(s, at + 28);
+    let size = at + 32 + leaves::padding(at + 32);
+    let count = words::word(s, size) as usize;
+    let start = size + 4;
+    let end = start + 2 * count;
+    let locale = end + leaves::padding(end);
+    let method = words::word(s, locale + 4);
+    let text = text_of(property, row);
+    let holds = phrase_holds(&s[start..end], method, catalogue, text);
+    told(holds, locale + 8)
+}
+
+// The leaf of a kind at a place.
+fn leaf_told(kind: u32, s: &[u8], at: usize, catalogue: &[u8], row: Fields) -> usize
+    requires { ⌜ LeafThere kind (now s) at × RowInside (now catalogue) row ⌝ }
+    ensures { λ r. ⌜ r ≡ leafTold kind (now (s .entry)) at (rowOf (now (catalogue .entry)) row) ⌝ }
+{
+    if kind == CONTENT {
+        return content_told(s, at, catalogue, row);
+    }
+    relation_told(s, at, row)
+}
+
+// The node at a place.
+fn node_told(s: &[u8], at: usize, levels: u32, catalogue: &[u8], row: Fields) -> usize
+    requires { ⌜ NodeThere (now s) at levels × RowInside (now catalogue) row ⌝ }
+    ensures { λ r. ⌜ NodeTold (now (s .entry)) at levels (rowOf (now (catalogue .entry)) row) r ⌝ }
+{
+    let kind = words::word(s, at);
+    let below = levels - 1;
+    if restriction::is_branch(kind) {
+        return list_told(kind, s, at, below, catalogue, row);
+    }
+    if kind == NOT {
+        let child = at + HEAD_SIZE;
+        return turned(node_told(s, child, below, catalogue, row));
+    }
+    leaf_told(kind, s, at, catalogue, row)
+}
+
+// The and or the or at a place, child by child.
+fn list_told(
+    kind: u32,
+    s: &[u8],
+    at: usize,
+    levels: u32,
+    catalogue: &[u8],
+    row: Fields,
+) -> usize
+    requires { ⌜ ListThere kind (now s) at levels × RowInside (now catalogue) row ⌝ }
+    ensures { λ r. ⌜ ListTold kind (now (s .entry)) at levels (rowOf (now (catalogue .entry)) row) r ⌝ }
+{
+    let mut left = words::word(s, at + HEAD_SIZE);
+    let mut place = at + LIST_HEAD;
+    let mut holds = kind == AND;
+    while 0 < left {
+        let child = place + leaves::padding(place);
+        let answer = node_told(s, child, levels, catalogue, row);
+        holds = with_child(kind, holds, answer % 2 == 1);
+        place = answer / 2;
+        left -= 1;
+    }
+    told(holds, place)
+}
+
+// Whether a tree holds for a row. Most trees are a list at their root.
+pub fn holds(tree: &[u8], catalogue: &[u8], row: Fields) -> bool
+    requires { ⌜ (isTree (restriction (now tree)) ≡ true) × RowInside (now catalogue) row ⌝ }
+    ensures { λ r. ⌜ r ≡ heldBy (restriction (now (tree .entry))) (rowOf (now (catalogue .entry)) row) ⌝ }
+{
+    let kind = words::word(tree, 0);
+    if restriction::is_branch(kind) {
+        let answer = list_told(kind, tree, 0, LEVELS_MOST - 1, catalogue, row);
+        return answer % 2 == 1;
+    }
+    let answer = node_told(tree, 0, LEVELS_MOST, catalogue, row);
+    answer % 2 == 1
+}
