@@ -8,7 +8,7 @@ ghost use Rattle.words.specs.Word.{halves};
 ghost use Rattle.catalogue.specs.Places.{textOf, rowOf};
 ghost use Rattle.leaves.specs.Property.{ofNumbers, ofTexts};
 ghost use Rattle.leaves.specs.Holds.{relationHolds, phraseHolds};
-ghost use Rattle.leaves.specs.Inside.{TextInside, RowInside};
+ghost use Rattle.holding.specs.Inside.{TextInside, RowInside};
 ghost use Rattle.restriction.specs.Holds.{heldBy};
 ghost use Rattle.restriction.specs.Reader.{restriction};
 ghost use Rattle.restriction.specs.Answer.{isTree};
@@ -177,14 +177,7 @@ fn node_told(s: &[u8], at: usize, levels: u32, catalogue: &[u8], row: Fields) ->
 }
 
 // The and or the or at a place, child by child.
-fn list_told(
-    kind: u32,
-    s: &[u8],
-    at: usize,
-    levels: u32,
-    catalogue: &[u8],
-    row: Fields,
-) -> usize
+fn list_told(kind: u32, s: &[u8], at: usize, levels: u32, catalogue: &[u8], row: Fields) -> usize
     requires { ⌜ ListThere kind (now s) at levels × RowInside (now catalogue) row ⌝ }
     ensures { λ r. ⌜ ListTold kind (now (s .entry)) at levels (rowOf (now (catalogue .entry)) row) r ⌝ }
 {

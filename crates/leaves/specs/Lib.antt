@@ -4,4 +4,3 @@ pub mod Property
 pub mod Leaf
 pub mod Holds
 pub mod Parts
-pub mod Inside

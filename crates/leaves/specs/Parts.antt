@@ -1,7 +1,7 @@
 -- Leaves on the wire (source, 2.2.1.3 and 2.2.1.9), each after its node's _ulType and weight. All indexes count from the node's first
 -- byte, which has the place `place` counted from the tree's origin.
 use mathlib.Core.List.{List}
-use Prim.Native.Nat.{ℕ, _+_, _*_, _≤_}
+use Prim.Native.Nat.{ℕ, _+_, _*_}
 use lib.Dec.{leb, eqb}
 use lib.ListN.{length, take, drop}
 use Rattle.words.specs.Below.{pick, both}
@@ -98,8 +98,3 @@ phraseOf s c = halves (take (2 * c .count) (drop (c .start) s))
 abbrev pub leafOf : List ℕ → Parts → Leaf
 leafOf s (OfContent c) = content (c .property) (phraseOf s c) (c .method)
 leafOf s (OfRelation r) = relation (r .relop) (r .property) (r .value)
-
--- a content leaf's units lie inside the bytes
-abbrev pub PartsInside : List ℕ → Parts → Type 0
-PartsInside s (OfContent c) = c .start + 2 * c .count ≤ length s
-PartsInside s (OfRelation r) = Unit {0}

@@ -1,17 +1,12 @@
-// The leaves of a restriction tree: reading one from bytes, and whether a row satisfies it.
+// The leaves of a restriction tree: reading one from bytes.
 ghost use mathlib.Core.Path.{_≡_};
 ghost use Prim.Native.Nat.{_+_, _*_, _^_, _≤_, _<_};
 ghost use lib.Dec.{leb};
 ghost use lib.ListN.{length};
 ghost use Rattle.words.specs.Below.{both};
-ghost use Rattle.catalogue.specs.Places.{textOf, rowOf};
 ghost use Rattle.leaves.specs.Padding.{padding, zeros};
-ghost use Rattle.leaves.specs.Property.{ofNumbers, ofTexts, isSet, propertySize, propertyAt};
-ghost use Rattle.leaves.specs.Holds.{relationHolds, phraseHolds, leafHolds};
-ghost use Rattle.leaves.specs.Parts.{phraseAt, contentAt, relationAt, leafAt, leafOf, phraseOf, PartsInside};
-ghost use Rattle.leaves.specs.Inside.{TextInside, RowInside};
-use catalogue::Fields;
-use catalogue::Text;
+ghost use Rattle.leaves.specs.Property.{isSet, propertySize, propertyAt};
+ghost use Rattle.leaves.specs.Parts.{phraseAt, contentAt, relationAt, leafAt};
 
 const PHRASE_MOST: u32 = 64;
 
@@ -227,73 +222,4 @@ pub fn read_leaf(kind: u32, s: &[u8], place: usize) -> LeafAt
         return read_relation(s);
     }
     LeafAt::NoLeaf
-}
-
-// Whether the row's value has the relation to the tree's.
-fn relation_holds(relop: u32, mine: u64, yours: u64) -> bool
-    ensures { λ r. ⌜ r ≡ relationHolds relop mine yours ⌝ }
-{
-    match relop {
-        0 => mine < yours,
-        1 => mine <= yours,
-        2 => yours < mine,
-        3 => yours <= mine,
-        4 => mine == yours,
-        _ => mine != yours,
-    }
-}
-
-// The row's number that a property names.
-fn number_of(property: u32, row: Fields) -> u64
-    ensures { λ r. ⌜ r ≡ ofNumbers property (row .key) (row .language) (row .default) ⌝ }
-{
-    match property {
-        KEY => row.key,
-        LANGUAGE => row.language,
-        _ => row.default,
-    }
-}
-
-// The row's text that a property names.
-fn text_of(property: u32, row: Fields) -> Text
-    ensures { λ r. ⌜ r ≡ ofTexts property (row .label) (row .note) ⌝ }
-{
-    if property == LABEL {
-        return row.label;
-    }
-    row.note
-}
-
-// Whether a content leaf's phrase occurs in a text.
-fn phrase_holds(s: &[u8], leaf: Content, catalogue: &[u8], text: Text) -> bool
-    requires { ⌜ (leaf .start + 2 * leaf .count ≤ length (now s)) × TextInside (now catalogue) text ⌝ }
-    ensures { λ r. ⌜ r ≡ phraseHolds (leaf .method) (phraseOf (now (s .entry)) leaf) (textOf (now (catalogue .entry)) text) ⌝ }
-{
-    if text.size == 0 {
-        return false;
-    }
-    let start = leaf.start;
-    let end = start + 2 * leaf.count;
-    phrase::occurs(
-        catalogue::units(catalogue, text),
-        &s[start..end],
-        leaf.method,
-    )
-}
-
-// Whether a leaf holds for a row.
-pub fn leaf_holds(s: &[u8], leaf: Parts, catalogue: &[u8], row: Fields) -> bool
-    requires { ⌜ PartsInside (now s) leaf × RowInside (now catalogue) row ⌝ }
-    ensures { λ r. ⌜ r ≡ leafHolds (rowOf (now (catalogue .entry)) row) (leafOf (now (s .entry)) leaf) ⌝ }
-{
-    match leaf {
-        Parts::OfContent(content) => {
-            let text = text_of(content.property, row);
-            phrase_holds(s, content, catalogue, text)
-        }
-        Parts::OfRelation(relation) => {
-            let mine = number_of(relation.property, row);
-            relation_holds(relation.relop, mine, relation.value)
-        }
-    }
 }

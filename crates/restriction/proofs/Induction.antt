@@ -14,7 +14,8 @@ use Rattle.leaves.specs.Padding.{padding, zeros}
 use Rattle.leaves.specs.Parts.{headSize, kindAt, leafAt, withLeaf, leafOf}
 use Rattle.leaves.specs.declared.LeafAt.{LeafAt}
 use Rattle.leaves.specs.declared.LeafAt.the-variants.{LeafTo, NoLeaf}
-use Rattle.leaves.proofs.LeafLaws.{pick-inv, leaf-read}
+use Rattle.leaves.proofs.LeafLaws.{pick-inv}
+use Rattle.leaves.proofs.LeafWords.{leaf-read}
 use Rattle.restriction.specs.Tree.{Tree, Forest, leaf, and, or, not, end, further}
 use Rattle.restriction.specs.Reader.{TreeRead, ForestRead, Read, andThen, readList, isBranch, listHead, joined, branchRead, negated, notRead, leafRead, readNode, readTree}
 

@@ -7,15 +7,13 @@ use mathlib.Core.Option.{Option, none, some}
 use Prim.Native.Nat.{ℕ, zero, suc, _+_, _-_, _≤_, _<_}
 use native.Mathlib.Omega.{arith}
 use borrow.Author.Tests.{eq-eqb, ne-eqb, le-leb, lt-leb}
-use lib.Dec.{leb, eqb}
+use lib.Dec.{leb}
 use lib.ListN.{length, take, drop, length-drop}
 use Rattle.words.specs.Below.{pick, both}
 use Rattle.words.specs.Word.{numberAt}
 use Rattle.words.proofs.Below.{by-test}
 use Rattle.words.proofs.Words.{rest}
-use Rattle.catalogue.specs.Plain.{Row}
-use Rattle.restriction.specs.Holds.{says, holds}
-use Rattle.restriction.specs.Tree.{further}
+use Rattle.restriction.specs.Tree.{Forest, end, further}
 use Rattle.leaves.specs.Padding.{padding, zeros}
 use Rattle.leaves.specs.Parts.{kindAt}
 use Rattle.restriction.specs.Reader.{TreeRead, ForestRead, Read, andThen, readList, isBranch, joined, branchRead, negated, notRead, leafRead, readNode, readTree}
@@ -26,43 +24,37 @@ use Rattle.restriction.specs.declared.ListRead.{ListRead}
 use Rattle.restriction.specs.declared.ListRead.the-variants.{Children, NoChildren}
 
 -- what is answered of a not, and of an and or an or whose first child was read
-not-answers : (row : Row) (o : Option TreeRead) → notAnswer (nodeAnswer row o) ≡ nodeAnswer row (andThen o negated)
-unfolding says
-not-answers row none = refl
-not-answers row (some r) = refl
+not-answers : (o : Option TreeRead) → notAnswer (nodeAnswer o) ≡ nodeAnswer (andThen o negated)
+not-answers none = refl
+not-answers (some r) = refl
 
-pub not-by : (row : Row) (read : Read) (nodes place : ℕ) (s : List ℕ) (child : NodeRead)
-    → child ≡ nodeAnswer row (read nodes (place + 8) (take (length s - 8) (drop 8 s))) → notAnswer child ≡ nodeAnswer row (notRead read nodes place s)
-not-by row read nodes place s child e =
-    let f : child ≡ nodeAnswer row (read nodes (place + 8) (drop 8 s)) = rw (rest 8 s) at e in
-    ap notAnswer f ∙ not-answers row (read nodes (place + 8) (drop 8 s))
+pub not-by : (read : Read) (nodes place : ℕ) (s : List ℕ) (child : NodeRead) → child ≡ nodeAnswer (read nodes (place + 8) (take (length s - 8) (drop 8 s)))
+    → notAnswer child ≡ nodeAnswer (notRead read nodes place s)
+not-by read nodes place s child e =
+    let f : child ≡ nodeAnswer (read nodes (place + 8) (drop 8 s)) = rw (rest 8 s) at e in
+    ap notAnswer f ∙ not-answers (read nodes (place + 8) (drop 8 s))
 
 abbrev further-of : TreeRead → ℕ → ForestRead → Option ForestRead
 further-of t next f = some (record { forest = further (t .tree) (f .forest); used = next + f .used; nodes = f .nodes })
 
-module _ (row : Row) where
-  joins : (kind : ℕ) (t : TreeRead) (next : ℕ) (o : Option ForestRead)
-      → branchAnswer kind (listAnswer row (andThen o (further-of t next))) ≡ nodeAnswer row (andThen (andThen o (further-of t next)) (joined kind))
-  unfolding says
-  joins kind t next none = refl
-  joins kind t next (some f) = by-test (eqb kind 1) (λ q. rw q) (λ q. rw q)
+joins : (kind : ℕ) (t : TreeRead) (next : ℕ) (o : Option ForestRead)
+    → branchAnswer (listAnswer (andThen o (further-of t next))) ≡ nodeAnswer (andThen (andThen o (further-of t next)) (joined kind))
+joins kind t next none = refl
+joins kind t next (some f) = refl
 
-  -- and of a list of children whose first was read
-  extends : (t : TreeRead) (next : ℕ) (o : Option ForestRead)
-      → moreAnswer (holds (t .tree) row) next (listAnswer row o) ≡ listAnswer row (andThen o (further-of t next))
-  unfolding says
-  extends t next none = refl
-  extends t next (some f) = refl
+-- and of a list of children whose first was read
+extends : (t : TreeRead) (next : ℕ) (o : Option ForestRead) → moreAnswer next (listAnswer o) ≡ listAnswer (andThen o (further-of t next))
+extends t next none = refl
+extends t next (some f) = refl
 
-  -- a node that was answered was read, and one that was not was not
-  pub node-inv : (o : Option TreeRead) {h : Bool} {u n : ℕ} → Node h u n ≡ nodeAnswer row o
-      → (r : TreeRead) × (o ≡ some r) × (h ≡ holds (r .tree) row) × (u ≡ r .used) × (n ≡ r .nodes)
-  node-inv none e = let z : _≡_ {A = ℕ} 0 1 = cc e in absurd (omega arith)
-  node-inv (some r) e = (r, refl, cc e, cc e, cc e)
+-- a node that was answered was read, and one that was not was not
+pub node-inv : (o : Option TreeRead) {u n : ℕ} → Node u n ≡ nodeAnswer o → (r : TreeRead) × (o ≡ some r) × (u ≡ r .used) × (n ≡ r .nodes)
+node-inv none e = let z : _≡_ {A = ℕ} 0 1 = cc e in absurd (omega arith)
+node-inv (some r) e = (r, refl, cc e, cc e)
 
-  pub no-node-inv : (o : Option TreeRead) → NoNode ≡ nodeAnswer row o → o ≡ none
-  no-node-inv none e = refl
-  no-node-inv (some r) e = let z : _≡_ {A = ℕ} 0 1 = cc e in absurd (omega arith)
+pub no-node-inv : (o : Option TreeRead) → NoNode ≡ nodeAnswer o → o ≡ none
+no-node-inv none e = refl
+no-node-inv (some r) e = let z : _≡_ {A = ℕ} 0 1 = cc e in absurd (omega arith)
 
 one-less : (k : ℕ) → suc k - 1 ≡ k
 one-less k = omega arith
@@ -117,69 +109,80 @@ list-is read zero nodes place s start p n = absurd (n refl)
 list-is read (suc k) nodes place s start p n = rw (one-less k, p)
 
 -- the answer of an and or an or, from that of its children
-module _ (row : Row) (read : Read) (kind nodes place : ℕ) (s : List ℕ) where
-  pub branch-short : length s < 12 → NoNode ≡ nodeAnswer row (branchRead read kind nodes place s)
+module _ (read : Read) (kind nodes place : ℕ) (s : List ℕ) where
+  pub branch-short : length s < 12 → NoNode ≡ nodeAnswer (branchRead read kind nodes place s)
   branch-short h = rw (lt-leb 12 (length s) h)
 
-  pub branch-empty : numberAt 4 s 8 ≡ 0 → NoNode ≡ nodeAnswer row (branchRead read kind nodes place s)
+  pub branch-empty : numberAt 4 s 8 ≡ 0 → NoNode ≡ nodeAnswer (branchRead read kind nodes place s)
   unfolding readList
   branch-empty e = by-test (leb 12 (length s)) (λ q. rw (q, e)) (λ q. rw q)
 
   branch-list : (count at : ℕ) (u : List ℕ) → (count ≡ 0 → ⊥)
-      → branchAnswer kind (listAnswer row (readList read count nodes at u)) ≡ nodeAnswer row (andThen (readList read count nodes at u) (joined kind))
+      → branchAnswer (listAnswer (readList read count nodes at u)) ≡ nodeAnswer (andThen (readList read count nodes at u) (joined kind))
   branch-list count at u n =
       rw (list-is read count nodes at u (padding at) refl n)
       (by-test (padded u (padding at)) (λ q. rw q (first (read nodes (at + padding at) (drop (padding at) u)))) (λ q. rw q))
     where
       first : (o : Option TreeRead)
-          → let l = andThen o (rest-of read at u (padding at) (count - 1)) in branchAnswer kind (listAnswer row l) ≡ nodeAnswer row (andThen l (joined kind))
+          → let l = andThen o (rest-of read at u (padding at) (count - 1)) in branchAnswer (listAnswer l) ≡ nodeAnswer (andThen l (joined kind))
       first none = refl
       first (some t) =
-          let next = padding at + t .used in joins row kind t next (readList read (count - 1) (t .nodes) (at + next) (drop next u))
+          let next = padding at + t .used in joins kind t next (readList read (count - 1) (t .nodes) (at + next) (drop next u))
 
   pub branch-by : (count : ℕ) (list : ListRead) → 12 ≤ length s → count ≡ numberAt 4 s 8 → (count ≡ 0 → ⊥)
-      → list ≡ listAnswer row (readList read count nodes (place + 12) (take (length s - 12) (drop 12 s)))
-      → branchAnswer kind list ≡ nodeAnswer row (branchRead read kind nodes place s)
+      → list ≡ listAnswer (readList read count nodes (place + 12) (take (length s - 12) (drop 12 s)))
+      → branchAnswer list ≡ nodeAnswer (branchRead read kind nodes place s)
   branch-by count list h c n e =
-      let f : list ≡ listAnswer row (readList read count nodes (place + 12) (drop 12 s)) = rw (rest 12 s) at e in
+      let f : list ≡ listAnswer (readList read count nodes (place + 12) (drop 12 s)) = rw (rest 12 s) at e in
       rw (le-leb 12 (length s) h, ← c, f) (branch-list count (place + 12) (drop 12 s) n)
 
--- the answer of a list of children
-pub list-none : (row : Row) (read : Read) (count nodes place : ℕ) (s : List ℕ) → count ≡ 0
-    → Children true false 0 nodes ≡ listAnswer row (readList read count nodes place s)
-unfolding readList says
-list-none row read count nodes place s e = rw e
+-- which of the two it is makes no difference to what is answered
+pub branch-any : (read : Read) (kind nodes place : ℕ) (s : List ℕ) → nodeAnswer (branchRead read 1 nodes place s) ≡ nodeAnswer (branchRead read kind nodes place s)
+branch-any read kind nodes place s =
+    by-test (leb 12 (length s)) (λ q. rw q (go (readList read (numberAt 4 s 8) nodes (place + 12) (drop 12 s)))) (λ q. rw q)
+  where
+    same : (g : Forest) (used left : ℕ)
+        → nodeAnswer (joined 1 (record { forest = g; used = used; nodes = left })) ≡ nodeAnswer (joined kind (record { forest = g; used = used; nodes = left }))
+    same end used left = refl
+    same (further t g) used left = refl
 
-module _ (row : Row) (read : Read) (count nodes place : ℕ) (s : List ℕ) (start : ℕ) (p : start ≡ padding place) (n : count ≡ 0 → ⊥) where
-  pub list-short : length s < start → NoChildren ≡ listAnswer row (readList read count nodes place s)
+    go : (o : Option ForestRead) → nodeAnswer (andThen o (joined 1)) ≡ nodeAnswer (andThen o (joined kind))
+    go none = refl
+    go (some f) = same (f .forest) (f .used) (f .nodes)
+
+-- the answer of a list of children
+pub list-none : (read : Read) (count nodes place : ℕ) (s : List ℕ) → count ≡ 0 → Children 0 nodes ≡ listAnswer (readList read count nodes place s)
+unfolding readList
+list-none read count nodes place s e = rw e
+
+module _ (read : Read) (count nodes place : ℕ) (s : List ℕ) (start : ℕ) (p : start ≡ padding place) (n : count ≡ 0 → ⊥) where
+  pub list-short : length s < start → NoChildren ≡ listAnswer (readList read count nodes place s)
   list-short h = rw (list-is read count nodes place s start p n, lt-leb start (length s) h)
 
   module _ (h : start ≤ length s) where
-    pub list-unclear : zeros s 0 start ≡ false → NoChildren ≡ listAnswer row (readList read count nodes place s)
+    pub list-unclear : zeros s 0 start ≡ false → NoChildren ≡ listAnswer (readList read count nodes place s)
     list-unclear z = rw (list-is read count nodes place s start p n, le-leb start (length s) h, z)
 
     module _ (z : zeros s 0 start ≡ true) where
-      pub list-bad : NoNode ≡ nodeAnswer row (read nodes (place + start) (take (length s - start) (drop start s)))
-          → NoChildren ≡ listAnswer row (readList read count nodes place s)
+      pub list-bad : NoNode ≡ nodeAnswer (read nodes (place + start) (take (length s - start) (drop start s)))
+          → NoChildren ≡ listAnswer (readList read count nodes place s)
       list-bad e =
-          let o = no-node-inv row (read nodes (place + start) (drop start s)) (rw (rest start s) at e) in
+          let o = no-node-inv (read nodes (place + start) (drop start s)) (rw (rest start s) at e) in
           rw (list-is read count nodes place s start p n, le-leb start (length s) h, z, o)
 
-      list-read : (r : TreeRead) (told : Bool) (used left : ℕ) (more : ListRead) → read nodes (place + start) (drop start s) ≡ some r
-          → told ≡ holds (r .tree) row → used ≡ r .used → left ≡ r .nodes
-          → more ≡ listAnswer row (readList read (count - 1) left (place + (start + used)) (drop (start + used) s))
-          → moreAnswer told (start + used) more ≡ listAnswer row (readList read count nodes place s)
-      list-read r told used left more o a b d m =
-          rw (m, list-is read count nodes place s start p n, le-leb start (length s) h, z, o, a, b, d)
-          (extends row r (start + r .used) (readList read (count - 1) (r .nodes) (place + (start + r .used)) (drop (start + r .used) s)))
+      list-read : (r : TreeRead) (used left : ℕ) (more : ListRead) → read nodes (place + start) (drop start s) ≡ some r → used ≡ r .used → left ≡ r .nodes
+          → more ≡ listAnswer (readList read (count - 1) left (place + (start + used)) (drop (start + used) s))
+          → moreAnswer (start + used) more ≡ listAnswer (readList read count nodes place s)
+      list-read r used left more o b d m =
+          rw (m, list-is read count nodes place s start p n, le-leb start (length s) h, z, o, b, d)
+          (extends r (start + r .used) (readList read (count - 1) (r .nodes) (place + (start + r .used)) (drop (start + r .used) s)))
 
-      pub list-by : (told : Bool) (used left : ℕ) (more : ListRead)
-          → Node told used left ≡ nodeAnswer row (read nodes (place + start) (take (length s - start) (drop start s)))
-          → more ≡ listAnswer row (readList read (count - 1) left (place + (start + used)) (take (length s - (start + used)) (drop (start + used) s)))
-          → moreAnswer told (start + used) more ≡ listAnswer row (readList read count nodes place s)
-      list-by told used left more e m =
-          let i = node-inv row (read nodes (place + start) (drop start s)) (rw (rest start s) at e) in
-          list-read (i .0) told used left more (i .1) (i .2) (i .3) (i .4) (rw (rest (start + used) s) at m)
+      pub list-by : (used left : ℕ) (more : ListRead) → Node used left ≡ nodeAnswer (read nodes (place + start) (take (length s - start) (drop start s)))
+          → more ≡ listAnswer (readList read (count - 1) left (place + (start + used)) (take (length s - (start + used)) (drop (start + used) s)))
+          → moreAnswer (start + used) more ≡ listAnswer (readList read count nodes place s)
+      list-by used left more e m =
+          let i = node-inv (read nodes (place + start) (drop start s)) (rw (rest start s) at e) in
+          list-read (i .0) used left more (i .1) (i .2) (i .3) (rw (rest (start + used) s) at m)
 
 -- a part ends where the whole does
 pub place-in : (s : List ℕ) (place a : ℕ) {most : ℕ} → a ≤ length s → place + length s < most → place + a + length (take (length s - a) (drop a s)) < most
@@ -191,12 +194,12 @@ taken s a u h l = let m : u ≤ length (drop a s) = rw (rest a s) at l in omega 
 
 pub not-used : (a : NodeRead) → nodeUsed (notAnswer a) ≤ 8 + nodeUsed a
 not-used NoNode = omega arith
-not-used (Node told used left) = omega arith
+not-used (Node used left) = omega arith
 
-pub branch-used : (kind : ℕ) (a : ListRead) → nodeUsed (branchAnswer kind a) ≤ 12 + listUsed a
-branch-used kind NoChildren = omega arith
-branch-used kind (Children every any used left) = omega arith
+pub branch-used : (a : ListRead) → nodeUsed (branchAnswer a) ≤ 12 + listUsed a
+branch-used NoChildren = omega arith
+branch-used (Children used left) = omega arith
 
-pub more-used : (told : Bool) (next : ℕ) (a : ListRead) → listUsed (moreAnswer told next a) ≤ next + listUsed a
-more-used told next NoChildren = omega arith
-more-used told next (Children every any used left) = omega arith
+pub more-used : (next : ℕ) (a : ListRead) → listUsed (moreAnswer next a) ≤ next + listUsed a
+more-used next NoChildren = omega arith
+more-used next (Children used left) = omega arith

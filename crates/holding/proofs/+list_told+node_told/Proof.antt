@@ -116,9 +116,10 @@ node-told-is-branch-requires : (t : ℕ) → node-told-lts.Need-is-branch-requir
 node-told-is-branch-requires t c κs = search needs
 
 node-told-list-told-requires : (t : ℕ) → node-told-lts.Need-list-told-requires (node-told-has t) (node-told-at t) node-told.Post
-node-told-list-told-requires t c κs = let a = c .before .before .before .before .before .args in let p = c .before .before .before .before .before .pre in let f = p .1 .0 in
-    (omega (arith, p .0, node-levels (a .levels) (f .nodes) (a .at) _ (f .node) (f .is)),
-    (record { short = f .short; nodes = f .nodes - 1; node = f .node; is = as-branch (a .levels) (f .nodes) (a .at) (a .s .now) (f .node) (f .is) (c .before .before .word .result) (c .before .before .word .ensures) (sym (c .before .is-branch .ensures) ∙ c .if1 .taken) }, p .1 .1))
+node-told-list-told-requires t c κs = let a = c .before .before .before .before .before .args in let p = c .before .before .before .before .before .pre in let f = p .1 .0 in (
+  omega (arith, p .0, node-levels (a .levels) (f .nodes) (a .at) _ (f .node) (f .is)),
+  (record { short = f .short; nodes = f .nodes - 1; node = f .node; is = as-branch (a .levels) (f .nodes) (a .at) (a .s .now) (f .node) (f .is) (c .before .before .word .result) (c .before .before .word .ensures) (sym (c .before .is-branch .ensures) ∙ c .if1 .taken) }, p .1 .1),
+)
 
 node-told-returns : (t : ℕ) → node-told-lts.Need-returns (node-told-has t) (node-told-at t) node-told.Post
 node-told-returns t c = let a = c .before .before .before .before .before .before .args in λ nodes r e. c .list-told .ensures (nodes - 1) r (as-branch (a .levels) nodes (a .at) (a .s .now) r e (c .before .before .before .word .result) (c .before .before .before .word .ensures) (sym (c .before .before .is-branch .ensures) ∙ c .before .if1 .taken))
@@ -128,9 +129,10 @@ node-told-add-child t c = let a = c .before .before .before .before .before .bef
 
 node-told-node-told-requires : (t : ℕ) → node-told-lts.Need-node-told-requires (node-told-has t) (node-told-at t) node-told.Post
 node-told-node-told-requires t c κs = let a = c .before .before .before .before .before .before .args in let p = c .before .before .before .before .before .before .pre in let f = p .1 .0 in
-    let j = not-child (readTree (a .levels - 1)) (f .nodes - 1) (a .at) (a .s .now) (f .node) (as-not (a .levels) (f .nodes) (a .at) (a .s .now) (f .node) (f .is) (c .before .before .before .word .result) (c .before .before .before .word .ensures) (sym (c .before .before .is-branch .ensures) ∙ c .before .if1 .left) (c .if2 .taken)) in
-    (omega (arith, p .0, node-levels (a .levels) (f .nodes) (a .at) _ (f .node) (f .is)),
-    (record { short = f .short; nodes = f .nodes - 1; node = j .0; is = j .1 }, p .1 .1))
+    let j = not-child (readTree (a .levels - 1)) (f .nodes - 1) (a .at) (a .s .now) (f .node) (as-not (a .levels) (f .nodes) (a .at) (a .s .now) (f .node) (f .is) (c .before .before .before .word .result) (c .before .before .before .word .ensures) (sym (c .before .before .is-branch .ensures) ∙ c .before .if1 .left) (c .if2 .taken)) in (
+      omega (arith, p .0, node-levels (a .levels) (f .nodes) (a .at) _ (f .node) (f .is)),
+      (record { short = f .short; nodes = f .nodes - 1; node = j .0; is = j .1 }, p .1 .1),
+    )
 
 node-told-turned-requires : (t : ℕ) → node-told-lts.Need-turned-requires (node-told-has t) (node-told-at t) node-told.Post
 node-told-turned-requires t c κs = search needs

@@ -9,8 +9,7 @@ use Rattle.leaves.proofs.padding.Reads as padding-reads
 use Rattle.words.proofs.word.Reads as word-reads
 use mathlib.Core.Path.{_∙_}
 use native.Mathlib.Omega.{arith}
-use Rattle.leaves.proofs.LeafLaws.{text-inside}
-use Rattle.holding.proofs.Leaves.{locale-counted, content-counted}
+use Rattle.holding.proofs.Leaves.{text-inside, locale-counted, content-counted}
 
 add-word : tie.Need-add-word
 add-word c = search needs

@@ -1,9 +1,8 @@
--- The answer is by cases on the list, and by the kind. Assumes nothing.
+-- The answer is by cases on the list. Assumes nothing.
 use borrow.Author.Needs.{needs}
 use Rattle.restriction.proofs.joined.Statement.{statement}
 use Rattle.restriction.proofs.joined.Tie as tie
 use native.Mathlib.Omega.{arith}
-use borrow.Author.Tests.{eq-eqb, ne-eqb}
 
 enum-known-list : tie.Need-enum-known-list
 enum-known-list c = search needs
@@ -18,10 +17,7 @@ add-taken : tie.Need-add-taken
 add-taken c = omega (arith, rw (c .before .list .given .1) at (c .before .before .before .pre))
 
 returns-2 : tie.Need-returns-2
-returns-2 c = rw (c .before .before .list .given .1, eq-eqb _ _ (c .if1 .taken))
-
-returns-3 : tie.Need-returns-3
-returns-3 c = rw (c .before .before .list .given .1, ne-eqb _ _ (c .if1 .left))
+returns-2 c = rw (c .before .list .given .1)
 
 pub joined-spec : {M : Type 1} → statement M
-joined-spec = tie.close (tie.spec enum-known-list enum-told returns add-taken returns-2 returns-3)
+joined-spec = tie.close (tie.spec enum-known-list enum-told returns add-taken returns-2)

@@ -3,14 +3,13 @@ use borrow.Author.Needs.{needs}
 use Rattle.restriction.proofs.leaf_node.Statement.{statement}
 use Rattle.restriction.proofs.leaf_node.Tie as tie
 use mathlib.Core.Path.{sym, _∙_}
-use Rattle.leaves.proofs.LeafLaws.{leaf-read}
-use Rattle.restriction.specs.Holds.{says}
+use Rattle.leaves.proofs.LeafWords.{leaf-read}
 
 read-leaf-requires : tie.Need-read-leaf-requires
 read-leaf-requires c κs = search needs
 
-enum-known-parts : tie.Need-enum-known-parts
-enum-known-parts c = search needs
+enum-known-used : tie.Need-enum-known-used
+enum-known-used c = search needs
 
 enum-told : tie.Need-enum-told
 enum-told c = search needs
@@ -18,14 +17,14 @@ enum-told c = search needs
 returns : tie.Need-returns
 returns c = (rw (sym (c .before .before .read-leaf .ensures) ∙ c .enum-told .given .1), search needs)
 
-leaf-holds-requires : tie.Need-leaf-holds-requires
-leaf-holds-requires c κs = let a = c .before .before .before .before .before .before .args in let v = c .before .parts .given in (leaf-read (a .kind) (a .s .now) (a .place) (v .0 .0) (v .0 .1 .0) (sym (c .before .before .before .read-leaf .ensures) ∙ v .1) .parts, c .before .before .before .before .before .before .pre .1)
-
 returns-2 : tie.Need-returns-2
-unfolding says
-returns-2 c = let a = c .before .before .before .before .before .before .before .args in let v = c .before .before .parts .given in let e = sym (c .before .before .before .before .read-leaf .ensures) ∙ v .1 in (rw (e, c .leaf-holds .ensures), leaf-read (a .kind) (a .s .now) (a .place) (v .0 .0) (v .0 .1 .0) e .inside)
+returns-2 c =
+    let a = c .before .before .before .before .before .args in
+    let v = c .before .used .given in
+    let e = sym (c .before .before .before .read-leaf .ensures) ∙ v .1 in
+    (rw e, leaf-read (a .kind) (a .s .now) (a .place) (v .0 .0) (v .0 .1 .0) e .inside)
 
 pub leaf-node-spec : {M : Type 1} → statement M
 leaf-node-spec =
     tie.close
-    (tie.spec read-leaf-requires enum-known-parts enum-told returns leaf-holds-requires returns-2)
+    (tie.spec read-leaf-requires enum-known-used enum-told returns returns-2)

@@ -1,44 +1,30 @@
--- Whether a tree is answered does not depend on the row, so one of no fields serves. Assumes nothing.
+-- The root is read with all levels and nodes left, from place 0; each way out is a law of the definition. Assumes nothing.
 use borrow.Author.Needs.{needs}
 use Rattle.restriction.proofs.well_formed.Statement.{statement}
 use Rattle.restriction.proofs.well_formed.Tie as tie
 use mathlib.Core.Path.{sym, _∙_}
-use Rattle.restriction.specs.Reader.{restriction}
-use Rattle.restriction.proofs.WholeLaws.{is-tree, is-none}
+use Rattle.restriction.proofs.WholeLaws.{whole-long, whole-none, whole-by}
 
-sub-tree : tie.Need-sub-tree
-sub-tree c = search needs
+returns : tie.Need-returns
+returns c = whole-long (c .before .before .args .bytes .now) (c .if1 .taken)
 
-part-tree-start : tie.Need-part-tree-start
-part-tree-start c = search needs
+node-requires : tie.Need-node-requires
+node-requires c κs = search needs
 
-part-tree-end : tie.Need-part-tree-end
-part-tree-end c = search needs
-
-tree-requires : tie.Need-tree-requires
-tree-requires c κs = search needs
+enum-known-used : tie.Need-enum-known-used
+enum-known-used c = search needs
 
 enum-told : tie.Need-enum-told
 enum-told c = search needs
 
-enum-told-2 : tie.Need-enum-told-2
-enum-told-2 c = search needs
-
-returns : tie.Need-returns
-returns c = is-tree _ (restriction (c .before .before .before .before .before .args .bytes .now)) (sym (c .enum-told .given .1) ∙ c .before .before .tree .ensures)
-
 returns-2 : tie.Need-returns-2
-returns-2 c = is-none _ (restriction (c .before .before .before .before .before .args .bytes .now)) (sym (c .enum-told2 .given .1) ∙ c .before .before .tree .ensures)
+returns-2 c = whole-none (c .before .before .before .before .before .args .bytes .now) (c .before .before .before .if1 .left) (sym (c .enum-told .given .1) ∙ c .before .before .node .ensures .0)
+
+returns-3 : tie.Need-returns-3
+returns-3 c = let v = c .before .used .given in
+    whole-by (c .before .before .before .before .before .before .args .bytes .now) (c .before .before .before .before .if1 .left) (v .0 .0) (v .0 .1 .0) (sym (v .1) ∙ c .before .before .before .node .ensures .0)
 
 pub well-formed-spec : {M : Type 1} → statement M
 well-formed-spec =
     tie.close
-    (tie.spec
-    sub-tree
-    part-tree-start
-    part-tree-end
-    tree-requires
-    enum-told
-    enum-told-2
-    returns
-    returns-2)
+    (tie.spec returns node-requires enum-known-used enum-told returns-2 returns-3)

@@ -16,16 +16,8 @@ returns c = search needs
 add-taken : tie.Need-add-taken
 add-taken c = omega (arith, rw (c .before .more .given .1) at (c .before .before .before .pre .1), c .before .before .before .pre .0)
 
-both-requires : tie.Need-both-requires
-both-requires c κs = search needs
-
-either-requires : tie.Need-either-requires
-either-requires c κs = search needs
-
 returns-2 : tie.Need-returns-2
-returns-2 c = rw (c .before .before .before .more .given .1, c .before .both .ensures, c .either .ensures)
+returns-2 c = rw (c .before .more .given .1)
 
 pub with-more-spec : {M : Type 1} → statement M
-with-more-spec =
-    tie.close
-    (tie.spec enum-known-more enum-told returns add-taken both-requires either-requires returns-2)
+with-more-spec = tie.close (tie.spec enum-known-more enum-told returns add-taken returns-2)
