@@ -63,7 +63,7 @@ fn gate(block: &[u32], m: &[u8], kind: usize) -> u32
         return 0;
     }
     let told = words::word(m, 8) as u64;
-    if told == words::checksum(m) {
+    if told == checksum::checksum(m) {
         return 0;
     }
     8

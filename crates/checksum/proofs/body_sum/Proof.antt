@@ -1,13 +1,13 @@
--- `words::body_sum` meets its contract. The loop's invariant: the sum is that of the first k words; then nothing is left, or one short word. Assumes nothing.
-use Rattle.words.proofs.body_sum.Statement.{statement}
-use Rattle.words.proofs.body_sum.Tie as tie
+-- `checksum::body_sum` meets its contract. The loop's invariant: the sum is that of the first k words; then nothing is left, or one short word. Assumes nothing.
+use Rattle.checksum.proofs.body_sum.Statement.{statement}
+use Rattle.checksum.proofs.body_sum.Tie as tie
 use borrow.Author.Needs.{needs}
 use mathlib.Core.Path.{_≡_}
 use Prim.Native.Nat.{_≤_, _*_, _-_, _/_}
 use native.Mathlib.Omega.{arith}
 use lib.ListN.{length}
-use Rattle.words.specs.Checksum.{sumOfWords}
-use Rattle.words.proofs.Words.{sum-more, sum-whole, sum-short}
+use Rattle.checksum.specs.Checksum.{sumOfWords}
+use Rattle.checksum.proofs.Sums.{sum-more, sum-whole, sum-short}
 
 abbrev Inv-loop : tie.InvT-loop
 Inv-loop s whole sum₀ k₀ sum k = (k ≤ whole) × (whole ≡ length s / 4) × (sum ≤ k * 4294967295) × (sum ≡ sumOfWords k s)

@@ -1,12 +1,12 @@
--- `words::checksum_of` meets its contract: the part after the header is the list without its first sixteen bytes. Assumes nothing.
+-- `checksum::checksum_of` meets its contract: the part after the header is the list without its first sixteen bytes. Assumes nothing.
 use borrow.Author.Needs.{needs}
-use Rattle.words.proofs.checksum_of.Statement.{statement}
-use Rattle.words.proofs.checksum_of.Tie as tie
+use Rattle.checksum.proofs.checksum_of.Statement.{statement}
+use Rattle.checksum.proofs.checksum_of.Tie as tie
 use native.Mathlib.Omega.{arith}
 use lib.Bits.{xor-lt}
 use Prim.Native.Nat.{_%_}
 use Rattle.words.proofs.Words.{rest}
-use Rattle.words.specs.Checksum.{checksum}
+use Rattle.checksum.specs.Checksum.{checksum}
 
 sub-body-sum : tie.Need-sub-body-sum
 sub-body-sum c = search needs

@@ -1,9 +1,9 @@
--- `words::checksum` meets its contract: each of the two tests of the size picks its case. Assumes nothing.
+-- `checksum::checksum` meets its contract: each of the two tests of the size picks its case. Assumes nothing.
 use borrow.Author.Needs.{needs}
-use Rattle.words.proofs.checksum.Statement.{statement}
-use Rattle.words.proofs.checksum.Tie as tie
+use Rattle.checksum.proofs.checksum.Statement.{statement}
+use Rattle.checksum.proofs.checksum.Tie as tie
 use borrow.Author.Tests.{lt-leb, le-leb}
-use Rattle.words.specs.Checksum.{checksumTold}
+use Rattle.checksum.specs.Checksum.{checksumTold}
 
 returns : tie.Need-returns
 unfolding checksumTold

@@ -2,8 +2,8 @@
 use mathlib.Core.Path.{_≡_, refl}
 use mathlib.Core.List.{List, [], _∷_, _++_}
 use Prim.Native.Nat.{ℕ}
 use Rattle.words.specs.Word.{number, numberAt, le}
-use Rattle.words.specs.Checksum.{sumOfWords, bodySum, checksum}
+use Rattle.checksum.specs.Checksum.{sumOfWords, bodySum, checksum}
 
 -- a message: its number, three words that the checksum does not read, and the words of its body
 abbrev pub wordsOf : List ℕ → List ℕ
