@@ -12,7 +12,7 @@ pub extern "C" fn nadrzewie_catalogue_check(bytes: &[u8]) -> u32
     ensures { λ r. ⌜ r ≡ refusalOf (catalogue (now (bytes .entry))) ⌝ }
 {
     let mut places = [0u32; 1024];
-    let checked = catalogue::check(bytes, &mut places);
+    let checked = checking::check(bytes, &mut places);
     checked.refusal
 }
 

@@ -1,12 +1,12 @@
--- `catalogue::text_end` meets its contract: the units run past the end, or they are a part whose zero units decide. Assumes nothing.
+-- `ends::text_end` meets its contract: the units run past the end, or they are a part whose zero units decide. Assumes nothing.
 use borrow.Author.Needs.{needs}
-use Rattle.catalogue.proofs.text_end.Statement.{statement}
-use Rattle.catalogue.proofs.text_end.Tie as tie
+use Rattle.ends.proofs.text_end.Statement.{statement}
+use Rattle.ends.proofs.text_end.Tie as tie
 use mathlib.Core.Path.{sym, _∙_}
 use native.Mathlib.Omega.{arith}
 use Rattle.numbers.proofs.Inside.{reading-read}
 use Rattle.catalogue.specs.Places.{textAt}
-use Rattle.catalogue.proofs.TextLaws.{end-short, end-clear, end-zero}
+use Rattle.ends.proofs.TextLaws.{end-short, end-clear, end-zero}
 
 read-requires : tie.Need-read-requires
 read-requires c κs = search needs

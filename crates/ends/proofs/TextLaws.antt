@@ -11,13 +11,12 @@ use Rattle.words.specs.Below.{pick, everyBelow}
 use Rattle.words.specs.Word.{numberAt, halves}
 use Rattle.words.proofs.Below.{every-next, every-next-not}
 use Rattle.words.proofs.Halves.{halves-length, halves-at}
 use Rattle.catalogue.specs.Plain.{noneZero}
 use Rattle.numbers.specs.Reading.{readingAt}
 use Rattle.numbers.specs.declared.Reading.the-variants.{Number}
 use Rattle.catalogue.specs.Limits.{sizeMost}
-use Rattle.catalogue.specs.Places.{textAfterAt, textAt, textEnd, unitBytesOf, unitsPart}
-use Rattle.catalogue.specs.declared.Text.{Text}
+use Rattle.catalogue.specs.Places.{textAfterAt, textAt, textEnd, unitBytesOf}
 use Rattle.catalogue.specs.declared.TextAt.the-variants.{TextTo, NoText}
 
 -- none of the first n units is zero
 abbrev pub clearBelow : ℕ → List ℕ → Bool
@@ -43,13 +42,6 @@ units-there s size start end clear e h q =
     rw (le-leb (unitBytesOf size) (length s - start) (omega arith), q, e, same)
   where
     same : start + unitBytesOf size - start ≡ unitBytesOf size
-    same = omega arith
-
--- the part from a text's start to its end is its units
-pub units-part : (s : List ℕ) (t : Text) (end : ℕ) → end ≡ t .start + unitBytesOf (t .size) → take (end - t .start) (drop (t .start) s) ≡ unitsPart s t
-units-part s t end e = ap (λ (n : ℕ). take n (drop (t .start) s)) same
-  where
-    same : end - t .start ≡ unitBytesOf (t .size)
     same = omega arith
 
 -- the place after a text whose size was read

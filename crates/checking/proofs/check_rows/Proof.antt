@@ -1,13 +1,14 @@
--- `catalogue::check_rows` meets its contract. The loop's invariant says what is left: the rows from the present place on, and their places over the array. Assumes nothing.
-use Rattle.catalogue.proofs.check_rows.Statement.{statement}
-use Rattle.catalogue.proofs.check_rows.Tie as tie
+-- `checking::check_rows` meets its contract. The loop's invariant says what is left: the rows from the present place on, and their places over the array. Assumes nothing.
+use Rattle.checking.proofs.check_rows.Statement.{statement}
+use Rattle.checking.proofs.check_rows.Tie as tie
 use borrow.Author.Needs.{needs}
 use mathlib.Core.Path.{_≡_, sym, _∙_}
 use Prim.Native.Nat.{_+_, _≤_}
 use lib.ListN.{length}
 use lib.Seq.{sets}
 use Rattle.catalogue.specs.Places.{rowsEnd, placesFrom}
-use Rattle.catalogue.proofs.RowLaws.{row-gone, row-there, row-inside, rows-more, rows-bad, places-more, places-bad, rows-none, places-none}
+use Rattle.catalogue.proofs.RowLaws.{row-inside}
+use Rattle.checking.proofs.RowsLaws.{row-gone, row-there, rows-more, rows-bad, places-more, places-bad, rows-none, places-none}
 
 abbrev Inv-loop : tie.InvT-loop
 Inv-loop s count first places₀ left₀ at₀ i₀ places left at i = (at ≤ length s) × (i + left ≡ count) × (rowsEnd left s at ≡ rowsEnd count s first) × (sets places i (placesFrom left s at) ≡ sets places₀ 0 (placesFrom count s first))

@@ -1,10 +1,10 @@
--- `catalogue::row_end` meets its contract: at each return the answers so far pick the case of `rowAt`. Assumes nothing.
+-- `ends::row_end` meets its contract: at each return the answers so far pick the case of `rowAt`. Assumes nothing.
 use borrow.Author.Needs.{needs}
-use Rattle.catalogue.proofs.row_end.Statement.{statement}
-use Rattle.catalogue.proofs.row_end.Tie as tie
+use Rattle.ends.proofs.row_end.Statement.{statement}
+use Rattle.ends.proofs.row_end.Tie as tie
 use mathlib.Core.Path.{sym, _∙_}
 use Rattle.catalogue.specs.Places.{rowAt}
-use Rattle.catalogue.proofs.RowLaws.{text-gone, row-ends}
+use Rattle.ends.proofs.EndLaws.{text-gone, row-ends}
 
 read-requires : tie.Need-read-requires
 read-requires c κs = search needs

@@ -1,13 +1,13 @@
--- `catalogue::none_zero` meets its contract. The loop's invariant: the flag says that none of the first i units is zero. Assumes nothing.
-use Rattle.catalogue.proofs.none_zero.Statement.{statement}
-use Rattle.catalogue.proofs.none_zero.Tie as tie
+-- `ends::none_zero` meets its contract. The loop's invariant: the flag says that none of the first i units is zero. Assumes nothing.
+use Rattle.ends.proofs.none_zero.Statement.{statement}
+use Rattle.ends.proofs.none_zero.Tie as tie
 use borrow.Author.Needs.{needs}
 use mathlib.Core.Path.{_≡_, sym, _∙_}
 use mathlib.Core.Logic.{⊎-elim}
 use Prim.Native.Nat.{_≤_, _-_, _/_}
 use lib.ListN.{length}
 use Rattle.words.proofs.Below.{every-start}
-use Rattle.catalogue.proofs.TextLaws.{clearBelow, clear-zero, clear-more, clear-all}
+use Rattle.ends.proofs.TextLaws.{clearBelow, clear-zero, clear-more, clear-all}
 
 abbrev Inv-loop : tie.InvT-loop
 Inv-loop units count clear₀ i₀ clear i = (i ≤ count) × (count ≡ length units / 2) × (clear ≡ clearBelow i units)

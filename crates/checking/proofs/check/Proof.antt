@@ -1,12 +1,12 @@
--- `catalogue::check` meets its contract: the size, the row count and the rows decide, each by a law. Assumes nothing.
+-- `checking::check` meets its contract: the size, the row count and the rows decide, each by a law. Assumes nothing.
 use borrow.Author.Needs.{needs}
-use Rattle.catalogue.proofs.check.Statement.{statement}
-use Rattle.catalogue.proofs.check.Tie as tie
+use Rattle.checking.proofs.check.Statement.{statement}
+use Rattle.checking.proofs.check.Tie as tie
 use mathlib.Core.Path.{sym, _∙_}
 use mathlib.Core.Bool.{true, false}
 use native.Mathlib.Omega.{arith}
 use Rattle.numbers.proofs.Inside.{reading-read}
-use Rattle.catalogue.proofs.CheckLaws.{too-long, no-count, by-rows}
+use Rattle.checking.proofs.CheckLaws.{too-long, no-count, by-rows}
 
 returns : tie.Need-returns
 returns c =
