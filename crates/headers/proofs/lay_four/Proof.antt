@@ -1,9 +1,9 @@
 -- Four words, each laid right after the one before. Assumes nothing.
 use borrow.Author.Needs.{needs}
-use Rattle.spans.proofs.lay_four.Statement.{statement}
-use Rattle.spans.proofs.lay_four.Tie as tie
+use Rattle.headers.proofs.lay_four.Statement.{statement}
+use Rattle.headers.proofs.lay_four.Tie as tie
 use native.Mathlib.Omega.{arith}
 use Rattle.spans.proofs.Little.{lay-fours}
 
 lay-word-requires : tie.Need-lay-word-requires
 lay-word-requires c κs = search needs

@@ -1,9 +1,9 @@
 -- The low word and then the high one are the long. Assumes nothing.
 use borrow.Author.Needs.{needs}
-use Rattle.spans.proofs.lay_long.Statement.{statement}
-use Rattle.spans.proofs.lay_long.Tie as tie
+use Rattle.little.proofs.lay_long.Statement.{statement}
+use Rattle.little.proofs.lay_long.Tie as tie
 use native.Mathlib.Omega.{arith}
 use Rattle.spans.proofs.Little.{lay-words}
 
 lay-word-requires : tie.Need-lay-word-requires
 lay-word-requires c κs = search needs

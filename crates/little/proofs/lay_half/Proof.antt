@@ -1,12 +1,12 @@
 -- Two stores side by side lay two bytes. Assumes nothing.
 use borrow.Author.Needs.{needs}
-use Rattle.spans.proofs.lay_half.Statement.{statement}
-use Rattle.spans.proofs.lay_half.Tie as tie
+use Rattle.little.proofs.lay_half.Statement.{statement}
+use Rattle.little.proofs.lay_half.Tie as tie
 use native.Mathlib.Omega.{arith}
 use native.Mathlib.Numerals.{add-one}
 use lib.ListN.{length-set}
 use Rattle.words.specs.Word.{le}
 use Rattle.spans.proofs.Lay.{stores}
 
 cast-reply : tie.Need-cast-reply
 cast-reply c = search needs

@@ -1,9 +1,9 @@
 -- The low half and then the high one are the word. Assumes nothing.
 use borrow.Author.Needs.{needs}
-use Rattle.spans.proofs.lay_word.Statement.{statement}
-use Rattle.spans.proofs.lay_word.Tie as tie
+use Rattle.little.proofs.lay_word.Statement.{statement}
+use Rattle.little.proofs.lay_word.Tie as tie
 use native.Mathlib.Omega.{arith}
 use Rattle.spans.proofs.Little.{lay-halves}
 
 lay-half-requires : tie.Need-lay-half-requires
 lay-half-requires c κs = search needs
