@@ -1,10 +1,9 @@
-// The option catalogue: a row that is known to stand at a place, and the units of its texts.
+// The option catalogue: its limits and rows, and the units of a text.
 ghost use mathlib.Core.Path.{_≡_};
 ghost use Prim.Native.Nat.{_+_, _^_, _≤_, _<_};
 ghost use lib.ListN.{length};
 ghost use Rattle.catalogue.specs.Limits.{sizeMost};
-ghost use Rattle.catalogue.specs.Places.{textAt, rowAt, TextThere, RowThere, unitBytesOf, unitsPart};
-use numbers::Reading;
+ghost use Rattle.catalogue.specs.Places.{unitBytesOf, unitsPart};
 
 pub const KEY_MOST: u64 = 0xffff_ffff;
 
@@ -54,51 +53,6 @@ pub fn units_end(size: usize, start: usize) -> usize
         return start;
     }
     start + 2 * (size - 1)
-}
-
-// The text that is known to stand at a place: its units are not looked at again.
-fn text_again(s: &[u8], at: usize) -> TextAt
-    requires { ⌜ TextThere (now s) at ⌝ }
-    ensures { λ r. ⌜ r ≡ textAt (now (s .entry)) at ⌝ }
-{
-    let Reading::Number(told, start) = numbers::read(s, at, SIZE_MOST) else {
-        return TextAt::NoText;
-    };
-    let size = told as usize;
-    let end = units_end(size, start);
-    TextAt::TextTo(Text { size, start }, end)
-}
-
-// The row that is known to stand at a place, as one that the check noted.
-pub fn row_again(s: &[u8], at: usize) -> RowAt
-    requires { ⌜ RowThere (now s) at ⌝ }
-    ensures { λ r. ⌜ r ≡ rowAt (now (s .entry)) at ⌝ }
-{
-    let Reading::Number(key, at1) = numbers::read(s, at, KEY_MOST) else {
-        return RowAt::NoRow;
-    };
-    let Reading::Number(language, at2) = numbers::read(s, at1, NUMBER_MOST) else {
-        return RowAt::NoRow;
-    };
-    let Reading::Number(default, at3) = numbers::read(s, at2, NUMBER_MOST) else {
-        return RowAt::NoRow;
-    };
-    let TextAt::TextTo(label, at4) = text_again(s, at3) else {
-        return RowAt::NoRow;
-    };
-    let TextAt::TextTo(note, at5) = text_again(s, at4) else {
-        return RowAt::NoRow;
-    };
-    RowAt::RowTo(
-        Fields {
-            key,
-            language,
-            default,
-            label,
-            note,
-        },
-        at5,
-    )
 }
 
 // The bytes of a text's units, as a part of the caller's own.

@@ -15,7 +15,7 @@ fn holds_at(tree: &[u8], catalogue: &[u8], place: u32) -> bool
     requires { ⌜ RowThere (now catalogue) place ⌝ }
     ensures { λ r. ⌜ r ≡ heldBy (restriction (now (tree .entry))) (rowSeen (now (catalogue .entry)) place) ⌝ }
 {
-    let RowAt::RowTo(row, _) = catalogue::row_again(catalogue, place as usize) else {
+    let RowAt::RowTo(row, _) = standing::row_again(catalogue, place as usize) else {
         return false;
     };
     let TreeAnswer::Holds(holds) = restriction::tree(tree, catalogue, row) else {

@@ -1,13 +1,13 @@
--- `catalogue::text_again` meets its contract: a text that stands is known by its size. Assumes nothing.
+-- `standing::text_again` meets its contract: a text that stands is known by its size. Assumes nothing.
 use borrow.Author.Needs.{needs}
-use Rattle.catalogue.proofs.text_again.Statement.{statement}
-use Rattle.catalogue.proofs.text_again.Tie as tie
+use Rattle.standing.proofs.text_again.Statement.{statement}
+use Rattle.standing.proofs.text_again.Tie as tie
 use mathlib.Core.Path.{sym, ap, _∙_}
 use native.Mathlib.Omega.{arith}
 use Rattle.numbers.proofs.Inside.{reading-read}
 use Rattle.catalogue.specs.Places.{textAt}
 use Rattle.catalogue.specs.declared.TextAt.the-variants.{TextTo}
 use Rattle.catalogue.proofs.RowLaws.{text-known}
 
 read-requires : tie.Need-read-requires
 read-requires c κs = search needs

@@ -1,10 +1,10 @@
--- `catalogue::row_again` meets its contract: its texts stand where its numbers end, and at each return the answers so far pick the case of `rowAt`. Assumes nothing.
+-- `standing::row_again` meets its contract: its texts stand where its numbers end, and at each return the answers so far pick the case of `rowAt`. Assumes nothing.
 use borrow.Author.Needs.{needs}
-use Rattle.catalogue.proofs.row_again.Statement.{statement}
-use Rattle.catalogue.proofs.row_again.Tie as tie
+use Rattle.standing.proofs.row_again.Statement.{statement}
+use Rattle.standing.proofs.row_again.Tie as tie
 use mathlib.Core.Path.{sym, _∙_}
 use Rattle.catalogue.specs.Places.{rowAt}
 use Rattle.catalogue.proofs.RowLaws.{label-there, note-there}
 
 read-requires : tie.Need-read-requires
 read-requires c κs = search needs
