@@ -153,7 +153,7 @@ fn load(line: &[u8], first: usize, last: usize, into: &mut [u8]) -> usize
     ensures { λ r. ⌜ r ≡ (last - first) / 2 ⌝ }
 {
     let digits = &line[first..last];
-    lexing::hex_bytes(digits, into);
+    digits::hex_bytes(digits, into);
     digits.len() / 2
 }
 

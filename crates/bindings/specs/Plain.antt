@@ -7,7 +7,7 @@ use Prim.Native.Nat.{ℕ, zero, suc, _+_}
 use lib.Dec.{leb, eqb}
 use lib.ListN.{length, getD, take, drop}
 use Rattle.words.specs.Below.{pick, everyBelow}
-use Rattle.words.specs.Checksum.{headerSize}
+use Rattle.checksum.specs.Checksum.{headerSize}
 use Rattle.words.specs.Word.{number}
 use Rattle.columns.specs.declared.Value.{Value}
 use Rattle.columns.specs.declared.Spot.{Spot}

@@ -53,7 +53,7 @@ fn keep(line: &mut [u8], place: Place, part: &[u8]) -> Place
 fn call_of(line: &[u8], cut: bool) -> Call
     ensures { λ r. ⌜ Fits (length (now (line .entry))) r ⌝ }
 {
-    let end = lexing::before_comment(line);
+    let end = runs::before_comment(line);
     if end < line.len() {
         return lexing::read(&line[0..end]);
     }
@@ -133,7 +133,7 @@ fn serve_chunk(
     let mut here = place;
     let mut at = 0;
     while at < chunk.len() {
-        let end = lexing::before_feed(chunk, at);
+        let end = runs::before_feed(chunk, at);
         here = keep(line, here, &chunk[at..end]);
         if end < chunk.len() {
             here = serve(line, here, table, catalogue, bytes, space, out);

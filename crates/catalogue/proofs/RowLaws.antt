@@ -1,15 +1,13 @@
--- Laws of texts and rows by their places: what one that was read says of the bytes, and the rows one after the other.
+-- Laws of texts and rows by their places: what one that was read says of the bytes, and what is known of one that stands there.
 -- Assumes nothing.
-use mathlib.Core.Path.{_≡_, refl, sym, ap, subst, _∙_}
-use mathlib.Core.Bool.{true, false}
+use mathlib.Core.Path.{_≡_, refl, ap, subst}
+use mathlib.Core.Bool.{true}
 use mathlib.Core.List.{List}
-use Prim.Native.Nat.{ℕ, suc, _+_, _-_, _≤_, _<_}
-use native.Mathlib.Numerals.{add-one}
+use Prim.Native.Nat.{ℕ, _+_, _-_, _≤_, _<_}
 use native.Mathlib.Omega.{arith}
 use borrow.Author.Tests.{leb-true}
-use lib.Dec.{leb, eqb}
-use lib.ListN.{length, take, drop, set}
-use lib.Seq.{sets}
+use lib.Dec.{leb}
+use lib.ListN.{length, take, drop}
 use Rattle.words.specs.Below.{both}
 use Rattle.words.specs.Word.{halves}
 use Rattle.words.proofs.Below.{by-test, both-left, both-right}
@@ -19,12 +17,11 @@ use Rattle.numbers.specs.declared.Reading.the-variants.{Number, Malformed}
 use Rattle.numbers.proofs.Inside.{Read, reading-read}
 use Rattle.catalogue.specs.Limits.{keyMost, numberMost, sizeMost}
 use Rattle.catalogue.specs.Plain.{noneZero}
-use Rattle.catalogue.specs.Places.{withNumber, withText, unitBytesOf, unitsPart, textAfterAt, textAt, rowAt, TextThere, RowThere, textEnd, rowEnd, rowsEnd, placesFrom}
+use Rattle.catalogue.specs.Places.{withNumber, withText, unitBytesOf, unitsPart, textAfterAt, textAt, rowAt, TextThere, RowThere}
 use Rattle.catalogue.specs.declared.Text.{Text}
 use Rattle.catalogue.specs.declared.Fields.{Fields}
 use Rattle.catalogue.specs.declared.TextAt.{TextAt}
 use Rattle.catalogue.specs.declared.TextAt.the-variants.{TextTo, NoText}
-use Rattle.catalogue.specs.declared.RowAt.{RowAt}
 use Rattle.catalogue.specs.declared.RowAt.the-variants.{RowTo, NoRow}
 
 -- an answer that is not the bad one came by what was read
@@ -146,75 +143,9 @@ module _ (s : List ℕ) (at key at₁ language at₂ default at₃ : ℕ) (a : r
       let i = text-inv NoRow (textAt s at₄) _ (RowTo (there .0) (there .1)) no-row e in
       (i .0, i .1, i .2)
 
--- a text and a row end after their place, so a place of 0 says that there is none
-pub text-gone : (s : List ℕ) (at : ℕ) → textEnd (textAt s at) ≡ 0 → textAt s at ≡ NoText
-text-gone s at z = go (textAt s at) refl z
+-- the part from a text's start to its end is its units
+pub units-part : (s : List ℕ) (t : Text) (end : ℕ) → end ≡ t .start + unitBytesOf (t .size) → take (end - t .start) (drop (t .start) s) ≡ unitsPart s t
+units-part s t end e = ap (λ (n : ℕ). take n (drop (t .start) s)) same
   where
-    go : (r : TextAt) → textAt s at ≡ r → textEnd r ≡ 0 → r ≡ NoText
-    go NoText e w = refl
-    go (TextTo t p) e w = let r = text-read s at t p e in absurd (omega (arith, r .past, r .ends, w))
-
-pub text-there : (s : List ℕ) (at n : ℕ) → n ≡ textEnd (textAt s at) → (n ≡ 0 → ⊥) → (t : Text) × (textAt s at ≡ TextTo t n)
-text-there s at n e z = go (textAt s at) e
-  where
-    go : (r : TextAt) → n ≡ textEnd r → (t : Text) × (r ≡ TextTo t n)
-    go NoText w = absurd (z w)
-    go (TextTo t p) w = (t, ap (TextTo t) (sym w))
-
-pub row-gone : (s : List ℕ) (at : ℕ) → rowEnd (rowAt s at) ≡ 0 → rowAt s at ≡ NoRow
-row-gone s at z = go (rowAt s at) refl z
-  where
-    go : (r : RowAt) → rowAt s at ≡ r → rowEnd r ≡ 0 → r ≡ NoRow
-    go NoRow e w = refl
-    go (RowTo f p) e w = let r = row-read s at f p e .note in absurd (omega (arith, r .past, r .ends, w))
-
-pub row-there : (s : List ℕ) (at n : ℕ) → n ≡ rowEnd (rowAt s at) → (n ≡ 0 → ⊥) → (f : Fields) × (rowAt s at ≡ RowTo f n)
-row-there s at n e z = go (rowAt s at) e
-  where
-    go : (r : RowAt) → n ≡ rowEnd r → (f : Fields) × (r ≡ RowTo f n)
-    go NoRow w = absurd (z w)
-    go (RowTo f p) w = (f, ap (RowTo f) (sym w))
-
--- a row ends where its note ends
-note-ends : (r : TextAt) (fields : Text → Fields) → textEnd r ≡ rowEnd (withText r NoRow λ note p. RowTo (fields note) p)
-note-ends NoText fields = refl
-note-ends (TextTo t p) fields = refl
-
-pub row-ends : (s : List ℕ) (at key at₁ language at₂ default at₃ at₄ end : ℕ) → readingAt keyMost s at ≡ Number key at₁ → readingAt numberMost s at₁ ≡ Number language at₂
-    → readingAt numberMost s at₂ ≡ Number default at₃ → at₄ ≡ textEnd (textAt s at₃) → (at₄ ≡ 0 → ⊥) → end ≡ textEnd (textAt s at₄) → end ≡ rowEnd (rowAt s at)
-unfolding rowAt
-row-ends s at key at₁ language at₂ default at₃ at₄ end a b c e z q =
-    let t = text-there s at₃ at₄ e z in
-    rw (a, b, c, t .1) (q ∙ note-ends (textAt s at₄) (λ note. record { key = key; language = language; default = default; label = t .0; note = note }))
-
--- the rows that are left, where there are some: one that was read, with its place noted, and then the others
-module _ (left : ℕ) (s : List ℕ) (at : ℕ) (places : List ℕ) (i : ℕ) (some-left : 0 < left) where
-  left-is : left ≡ suc (left - 1)
-  left-is = omega arith
-
-  pub rows-more : (f : Fields) (next : ℕ) → rowAt s at ≡ RowTo f next → rowsEnd (left - 1) s next ≡ rowsEnd left s at
-  unfolding rowsEnd
-  rows-more f next e = sym (ap (λ (n : ℕ). rowsEnd n s at) left-is ∙ rw e)
-
-  pub places-more : (f : Fields) (next : ℕ) → rowAt s at ≡ RowTo f next
-      → sets (set places i at) (i + 1) (placesFrom (left - 1) s next) ≡ sets places i (placesFrom left s at)
-  unfolding placesFrom
-  places-more f next e = sym (ap (λ (n : ℕ). sets places i (placesFrom n s at)) left-is ∙ rw (e, add-one))
-
-  -- or one that is malformed
-  pub rows-bad : rowAt s at ≡ NoRow → rowsEnd left s at ≡ false
-  unfolding rowsEnd
-  rows-bad e = ap (λ (n : ℕ). rowsEnd n s at) left-is ∙ rw e
-
-  pub places-bad : rowAt s at ≡ NoRow → sets places i (placesFrom left s at) ≡ set places i at
-  unfolding placesFrom
-  places-bad e = ap (λ (n : ℕ). sets places i (placesFrom n s at)) left-is ∙ rw e
-
--- and where none is left
-pub rows-none : (left : ℕ) (s : List ℕ) (at : ℕ) → left ≡ 0 → rowsEnd left s at ≡ eqb at (length s)
-unfolding rowsEnd
-rows-none left s at e = rw e
-
-pub places-none : (left : ℕ) (s : List ℕ) (at : ℕ) (places : List ℕ) (i : ℕ) → left ≡ 0 → sets places i (placesFrom left s at) ≡ places
-unfolding placesFrom
-places-none left s at places i e = rw e
+    same : end - t .start ≡ unitBytesOf (t .size)
+    same = omega arith

@@ -58,7 +58,7 @@ pub fn fields_at(s: &[u8], at: usize) -> Fields
     requires { ⌜ RowThere (now s) at ⌝ }
     ensures { λ r. ⌜ r ≡ fieldsSeen (now (s .entry)) at ⌝ }
 {
-    let RowAt::RowTo(fields, _) = catalogue::row_again(s, at) else {
+    let RowAt::RowTo(fields, _) = standing::row_again(s, at) else {
         return Fields {
             key: 0,
             language: 0,

@@ -11,7 +11,7 @@ use lib.ListN.{length}
 use Rattle.words.specs.Below.{pick}
 use Rattle.words.proofs.Below.{by-test, both-true}
 use Rattle.words.proofs.Options.{none≢some, some-is}
-use Rattle.words.specs.Checksum.{headerSize}
+use Rattle.checksum.specs.Checksum.{headerSize}
 use Rattle.columns.specs.Each.{every}
 use Rattle.columns.specs.declared.Value.{Value}
 use Rattle.columns.specs.declared.Spot.{Spot}

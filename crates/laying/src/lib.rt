@@ -25,7 +25,7 @@ fn lay_text(reply: &mut [u8], s: &[u8], text: Text, place: usize)
     let units = catalogue::units(s, text);
     spans::lay_bytes(reply, place, units);
     let end = place + units.len();
-    spans::lay_half(reply, end, 0);
+    little::lay_half(reply, end, 0);
 }
 
 // A field's block, where the value is used and there is one.
@@ -48,8 +48,8 @@ fn lay_variant(reply: &mut [u8], at: usize, kind: u64, number: u64)
     requires { ⌜ at + 16 ≤ length (now reply) ⌝ }
     ensures { λ _. ⌜ now (reply .exit) ≡ lay (now (reply .entry)) at (le 8 kind ++ le 8 number) ⌝ }
 {
-    spans::lay_long(reply, at, kind);
-    spans::lay_long(reply, at + 8, number);
+    little::lay_long(reply, at, kind);
+    little::lay_long(reply, at + 8, number);
 }
 
 // A column's cell, where its value is used.
@@ -65,7 +65,7 @@ fn lay_value(reply: &mut [u8], column: Column, row: usize, kind: u64, number: u6
         lay_variant(reply, at, kind, number);
         return;
     }
-    spans::lay_word(reply, at, number);
+    little::lay_word(reply, at, number);
 }
 
 // A column's status byte, where it is used.
@@ -89,7 +89,7 @@ fn lay_length(reply: &mut [u8], column: Column, row: usize, value: u64)
         return;
     }
     let at = row + (column.length.offset as usize);
-    spans::lay_word(reply, at, value);
+    little::lay_word(reply, at, value);
 }
 
 // All of a column in the row at `row`, its block ending at `top`: the block's place is given back.

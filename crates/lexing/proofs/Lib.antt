@@ -1,3 +1,1 @@
-pub mod RunLaws
-pub mod DigitLaws
 pub mod LineLaws

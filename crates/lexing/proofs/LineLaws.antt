@@ -6,10 +6,10 @@ use mathlib.Core.Option.{Option, none, some}
 use Prim.Native.Nat.{ℕ, _-_, _/_, _≤_, _<_}
 use native.Mathlib.Omega.{arith}
 use borrow.Author.Tests.{eq-eqb, ne-eqb, lt-ltb, le-ltb}
-use Rattle.lexing.specs.Runs.{wordStart, wordEnd}
-use Rattle.lexing.specs.Digits.{decimal, told, isDash, isHex}
+use Rattle.runs.specs.Runs.{wordStart, wordEnd}
+use Rattle.digits.specs.Digits.{decimal, told, isDash, isHex}
 use Rattle.lexing.specs.Line.{between, numbered, numberIn, numberWord, hexIn, hexWord, named, callIn, callOf}
-use Rattle.lexing.specs.declared.digits.Spelled.the-variants as spelled
+use Rattle.digits.specs.declared.Spelled.the-variants as spelled
 use Rattle.lexing.specs.declared.Reason.the-variants.{MissingWord, BadNumber, BadHex, TooLong}
 use Rattle.lexing.specs.declared.Number.the-variants as number
 use Rattle.lexing.specs.declared.Hex.the-variants as hex

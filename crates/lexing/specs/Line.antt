@@ -6,8 +6,8 @@ use Prim.Native.Nat.{ℕ, _-_, _/_, _≤_}
 use lib.Dec.{eqb, ltb}
 use lib.ListN.{length, take, drop}
 use Rattle.words.specs.Below.{pick}
-use Rattle.lexing.specs.Runs.{wordStart, wordEnd, sameBytes}
-use Rattle.lexing.specs.Digits.{decimal, isDash, isHex}
+use Rattle.runs.specs.Runs.{wordStart, wordEnd, sameBytes}
+use Rattle.digits.specs.Digits.{decimal, isDash, isHex}
 use Rattle.lexing.specs.declared.Reason.the-variants.{UnknownCall, MissingWord, ExtraWord, BadNumber, BadHex, TooLong, NoSuchWord}
 use Rattle.lexing.specs.declared.Number.{Number}
 use Rattle.lexing.specs.declared.Number.the-variants as number

@@ -1,10 +1,4 @@
-// The lines of a calls file: the words of a line, numbers, hex digits, and the call that a line is.
-mod digits;
-mod runs;
-
-pub use digits::hex_bytes;
-pub use runs::before_comment;
-pub use runs::before_feed;
+// The lines of a calls file: the call that a line is.
 ghost use mathlib.Core.Path.{_≡_};
 ghost use Prim.Native.Nat.{_≤_};
 ghost use lib.ListN.{length};

@@ -10,7 +10,7 @@ use lib.Dec.{ltb, eqb}
 use lib.ListN.{length, getD}
 use Rattle.words.specs.Below.{pick}
 use Rattle.words.specs.Word.{numberAt}
-use Rattle.words.specs.Checksum.{checksum, checksumTold}
+use Rattle.checksum.specs.Checksum.{checksum, checksumTold}
 use Rattle.words.proofs.Below.{by-test}
 use Rattle.sessions.specs.Seat.{Seat, seatOf}
 use Rattle.refusals.specs.Refusal.{firstCause}

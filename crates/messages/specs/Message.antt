@@ -8,7 +8,7 @@ use lib.Dec.{leb, ltb, eqb}
 use lib.ListN.{length, getD, set}
 use Rattle.words.specs.Below.{pick, both}
 use Rattle.words.specs.Word.{numberAt, le}
-use Rattle.words.specs.Checksum.{checksum}
+use Rattle.checksum.specs.Checksum.{checksum}
 use Rattle.catalogue.specs.Plain.{Row}
 use Rattle.columns.specs.Fit.{fit}
 use Rattle.bindings.specs.Bindings.{Bindings}

@@ -63,7 +63,7 @@ fn gate(block: &[u32], m: &[u8], kind: usize) -> u32
         return 0;
     }
     let told = words::word(m, 8) as u64;
-    if told == words::checksum(m) {
+    if told == checksum::checksum(m) {
         return 0;
     }
     8
@@ -75,7 +75,7 @@ fn refuse(reply: &mut [u8], msg: u32, refusal: u32) -> Answered
     ensures { λ r. ⌜ (r ≡ record { refusal = refusal; count = 16 }) × (now (reply .exit) ≡ lay (now (reply .entry)) 0 (fourWords msg (statusOf refusal) 0 0)) ⌝ }
 {
     let sent = refusals::status(refusal);
-    spans::lay_header(reply, msg, sent);
+    headers::lay_header(reply, msg, sent);
     Answered { refusal, count: 16 }
 }
 
@@ -161,8 +161,8 @@ fn free(block: &mut [u32], m: &[u8], reply: &mut [u8], msg: u32) -> Answered
     }
     close(block, handle);
     let left = open_count(block);
-    spans::lay_header(reply, msg, 0);
-    spans::lay_word(reply, 16, left as u64);
+    headers::lay_header(reply, msg, 0);
+    little::lay_word(reply, 16, left as u64);
     Answered {
         refusal: 0,
         count: 20,
@@ -200,7 +200,7 @@ fn bind(block: &mut [u32], m: &[u8], reply: &mut [u8], msg: u32) -> Answered
         return refuse(reply, msg, 12);
     }
     rebind(block, handle, &records, count, width);
-    spans::lay_header(reply, msg, 0);
+    headers::lay_header(reply, msg, 0);
     Answered {
         refusal: 0,
         count: 16,

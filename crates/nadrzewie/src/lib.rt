@@ -2,7 +2,7 @@
 ghost use mathlib.Core.Path.{_≡_};
 ghost use mathlib.Core.List.{[]};
 ghost use lib.ListN.{length};
-ghost use Rattle.words.specs.Checksum.{checksumTold};
+ghost use Rattle.checksum.specs.Checksum.{checksumTold};
 ghost use Rattle.catalogue.specs.Plain.{catalogue, refusalOf};
 ghost use Rattle.server.specs.Step.{sourcesOf, connectStep, openStep, messageStep, Keeps};
 
@@ -12,7 +12,7 @@ pub extern "C" fn nadrzewie_catalogue_check(bytes: &[u8]) -> u32
     ensures { λ r. ⌜ r ≡ refusalOf (catalogue (now (bytes .entry))) ⌝ }
 {
     let mut places = [0u32; 1024];
-    let checked = catalogue::check(bytes, &mut places);
+    let checked = checking::check(bytes, &mut places);
     checked.refusal
 }
 
@@ -21,7 +21,7 @@ pub extern "C" fn nadrzewie_catalogue_check(bytes: &[u8]) -> u32
 pub extern "C" fn nadrzewie_checksum(message: &[u8]) -> u64
     ensures { λ r. ⌜ r ≡ checksumTold (now (message .entry)) ⌝ }
 {
-    words::checksum(message)
+    checksum::checksum(message)
 }
 
 // A seat's number and a cursor's handle, as C passes them: two types, as in the server.

@@ -3,7 +3,7 @@ use mathlib.Core.Path.{refl}
 use native.Mathlib.Omega.{arith}
 use Rattle.words.specs.Below.{someBelow, everyBelow}
 use Rattle.words.specs.Word.{number, numberAt, le}
-use Rattle.words.specs.Checksum.{sumOfWords, bodySum, checksum}
+use Rattle.checksum.specs.Checksum.{sumOfWords, bodySum, checksum}
 use Rattle.numbers.specs.Groups as Groups
 use Rattle.phrase.specs.Phrase.{standsAt, startsWord, endsWord, occursAt, occurs}
 use Rattle.leaves.specs.Padding.{zeros}

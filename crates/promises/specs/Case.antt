@@ -2,7 +2,7 @@
 use mathlib.Core.List.{List, [], _∷_, _++_}
 use Prim.Native.Nat.{ℕ}
 use Rattle.words.specs.Word.{le}
-use Rattle.words.proofs.Vectors.{wordsOf}
+use Rattle.checksum.proofs.Vectors.{wordsOf}
 use Rattle.spans.specs.Laid.{fourWords}
 use Rattle.restriction.proofs.Vectors.{spec, related}
 use Rattle.rows.proofs.Vectors.{caseReply}

@@ -5,8 +5,8 @@ use mathlib.Core.List.{List, [], _∷_}
 use mathlib.Core.Option.{Option, none, some}
 use Prim.Native.Nat.{ℕ, _+_, _-_}
 use lib.ListN.{replicate}
-use Rattle.words.specs.Checksum.{checksum}
-use Rattle.words.proofs.Vectors.{messageOf}
+use Rattle.checksum.specs.Checksum.{checksum}
+use Rattle.checksum.proofs.Vectors.{messageOf}
 use Rattle.numbers.specs.Groups as Groups
 use Rattle.catalogue.specs.Limits.{numberMost}
 use Rattle.catalogue.specs.Plain.{Row}

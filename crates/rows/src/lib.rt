@@ -175,8 +175,8 @@ pub fn page(
         size,
         asked,
     );
-    spans::lay_four(reply, 16, sent as u32, 1, 0, 0);
+    headers::lay_four(reply, 16, sent as u32, 1, 0, 0);
     let status = status_for(numbers.len() - sent);
-    spans::lay_header(reply, ROWS_MESSAGE, status);
+    headers::lay_header(reply, ROWS_MESSAGE, status);
     sent
 }

@@ -24,12 +24,11 @@ use Rattle.catalogue.specs.declared.Checked.{Checked}
 use Rattle.catalogue.specs.declared.RowAt.the-variants.{RowTo, NoRow}
 use Rattle.catalogue.proofs.RowLaws.{row-read}
 use Rattle.catalogue.proofs.Agree.{accepted, catalogue-agrees, rows-counted, row-stands}
-use Rattle.leaves.specs.Inside.{RowInside}
+use Rattle.holding.specs.Inside.{RowInside}
 use Rattle.restriction.specs.Tree.{Tree}
+use Rattle.restriction.specs.Holds.{heldBy}
 use Rattle.restriction.specs.Reader.{restriction}
-use Rattle.restriction.specs.Answer.{treeAnswer}
-use Rattle.restriction.specs.declared.TreeAnswer.the-variants.{Holds, Malformed as NoTree}
-use Rattle.select.specs.Select.{numbersFrom, heldBy, selectedBy, selected, Selected}
+use Rattle.select.specs.Select.{numbersFrom, selectedBy, selected, Selected}
 use Rattle.select.proofs.Selection.{numbers-few}
 use Rattle.select.specs.Noted.{Noted}
 
@@ -46,15 +45,6 @@ row-inside s at f next e =
 
 pub no-row : {A : Type 0} (s : List ℕ) (at : ℕ) → RowThere s at → rowAt s at ≡ NoRow → A
 no-row s at w e = let z : _≡_ {A = ℕ} 0 1 = cc (w .2, e) in absurd (omega arith)
-
--- what the tree's answer says of a row
-pub held-told : (row : Row) (o : Option Tree) {told : Bool} → Holds told ≡ treeAnswer row o → told ≡ heldBy o row
-held-told row none e = let z : _≡_ {A = ℕ} 0 1 = cc e in absurd (omega arith)
-held-told row (some t) e = cc e
-
-pub held-none : (row : Row) (o : Option Tree) → NoTree ≡ treeAnswer row o → false ≡ heldBy o row
-held-none row none e = refl
-held-none row (some t) e = let z : _≡_ {A = ℕ} 0 1 = cc e in absurd (omega arith)
 
 -- the numbers of the rows from the i-th on
 abbrev pub left : List ℕ → List ℕ → ℕ → List ℕ

@@ -21,11 +21,6 @@ numbersFrom n test (r ∷ rows) = let others = numbersFrom (n + 1) test rows in 
 abbrev pub selection : Tree → List Row → List ℕ
 selection t rows = numbersFrom 0 (holds t) rows
 
--- whether a row is held by a tree, if there is one
-abbrev pub heldBy : Option Tree → Row → Bool
-heldBy none row = false
-heldBy (some t) row = holds t row
-
 -- what is selected by a list of bytes: nothing, where it holds no tree or the catalogue is malformed
 abbrev pub selectedBy : Option Tree → Option (List Row) → List ℕ
 selectedBy none rows = []

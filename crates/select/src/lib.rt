@@ -1,27 +1,26 @@
 // The rows that a tree selects.
 ghost use mathlib.Core.Path.{_≡_};
+ghost use mathlib.Core.Bool.{true};
 ghost use Prim.Native.Nat.{_≤_};
 ghost use lib.ListN.{length};
 ghost use Rattle.catalogue.specs.Limits.{rowsMost};
 ghost use Rattle.catalogue.specs.Places.{RowThere, rowSeen};
+ghost use Rattle.restriction.specs.Holds.{heldBy};
 ghost use Rattle.restriction.specs.Reader.{restriction};
-ghost use Rattle.select.specs.Select.{heldBy, Selected};
+ghost use Rattle.restriction.specs.Answer.{isTree};
+ghost use Rattle.select.specs.Select.{Selected};
 ghost use Rattle.select.specs.Noted.{Noted};
 use catalogue::RowAt;
-use restriction::TreeAnswer;
 
 // Whether the tree holds for the row at a place.
 fn holds_at(tree: &[u8], catalogue: &[u8], place: u32) -> bool
-    requires { ⌜ RowThere (now catalogue) place ⌝ }
+    requires { ⌜ (isTree (restriction (now tree)) ≡ true) × RowThere (now catalogue) place ⌝ }
     ensures { λ r. ⌜ r ≡ heldBy (restriction (now (tree .entry))) (rowSeen (now (catalogue .entry)) place) ⌝ }
 {
-    let RowAt::RowTo(row, _) = catalogue::row_again(catalogue, place as usize) else {
+    let RowAt::RowTo(row, _) = standing::row_again(catalogue, place as usize) else {
         return false;
     };
-    let TreeAnswer::Holds(holds) = restriction::tree(tree, catalogue, row) else {
-        return false;
-    };
-    holds
+    holding::holds(tree, catalogue, row)
 }
 
 // The numbers of the selected rows go into the lent words from the first on; their count is returned. Each row is read once, at the
@@ -33,7 +32,7 @@ pub fn select(
     places: &[u32; 1024],
     into: &mut [u32],
 ) -> u32
-    requires { ⌜ Noted (now catalogue) rows (now places) × (rowsMost ≤ length (now into)) ⌝ }
+    requires { ⌜ (isTree (restriction (now tree)) ≡ true) × Noted (now catalogue) rows (now places) × (rowsMost ≤ length (now into)) ⌝ }
     ensures { λ r. ⌜ Selected (now (tree .entry)) (now (catalogue .entry)) (now (into .entry)) r (now (into .exit)) ⌝ }
 {
     let mut count: u32 = 0;

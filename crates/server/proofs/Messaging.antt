@@ -6,7 +6,7 @@ use Prim.Native.Nat.{ℕ, _+_, _-_, _≤_, _<_}
 use native.Mathlib.Omega.{arith}
 use borrow.Author.Tests.{ne-eqb, lt-ltb, le-ltb, le-leb, lt-leb}
 use lib.ListN.{length}
-use Rattle.words.specs.Checksum.{messageSized}
+use Rattle.checksum.specs.Checksum.{messageSized}
 use Rattle.sessions.specs.Layout.{seatSize, seatAt, put}
 use Rattle.fetching.specs.Ready.{rowsOf}
 use Rattle.refusals.specs.Refusal.{firstCause}

@@ -7,7 +7,7 @@ use Prim.Native.Nat.{ℕ}
 use lib.Dec.{ltb, eqb}
 use lib.ListN.{length, drop}
 use Rattle.words.specs.Below.{pick}
-use Rattle.words.specs.Checksum.{messageSized}
+use Rattle.checksum.specs.Checksum.{messageSized}
 use Rattle.catalogue.specs.Plain.{Row, catalogue}
 use Rattle.sessions.specs.Layout.{seatSize, seatAt, put, blockOf}
 use Rattle.sessions.specs.Seat.{Seat, seatBlock, seatOf, fresh}

@@ -33,7 +33,7 @@ fn judge(table: &[u32], bytes: &[u8], seat: u32, places: &mut [u32; 1024]) -> Ju
             rows: 0,
         };
     }
-    let checked = catalogue::check(bytes, places);
+    let checked = checking::check(bytes, places);
     let refusal = checked.refusal;
     let rows = checked.rows;
     if refusal != 0 {

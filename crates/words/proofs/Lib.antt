@@ -3,4 +3,3 @@ pub mod Options
 pub mod Says
 pub mod Words
 pub mod Halves
-pub mod Vectors

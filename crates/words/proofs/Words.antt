@@ -1,14 +1,13 @@
 -- Laws of little-endian numbers: one step of a number at a place, and the two widths that the code reads. Assumes nothing.
-use mathlib.Core.Path.{_≡_, refl, ap, _∙_}
+use mathlib.Core.Path.{_≡_, refl}
 use mathlib.Core.List.{List, [], _∷_}
-use Prim.Native.Nat.{ℕ, zero, suc, _+_, _*_, _-_, _/_, _<_}
+use Prim.Native.Nat.{ℕ, zero, suc, _+_, _*_, _-_}
 use native.Mathlib.Nat.{add-suc}
 use native.Mathlib.Numerals.{add-one}
 use native.Mathlib.Omega.{arith}
 use lib.ListN.{length, getD, take, drop, length-drop}
 use lib.Seq.{take-nil, take-all}
 use Rattle.words.specs.Word.{number, numberAt}
-use Rattle.words.specs.Checksum.{sumOfWords, bodySum}
 
 -- the byte at the place, and 256 times the number of the bytes after it
 pub number-suc : (n : ℕ) (s : List ℕ) (at : ℕ) → numberAt (suc n) s at ≡ getD s at 0 + 256 * numberAt n s (suc at)
@@ -50,21 +49,3 @@ word-at s at =
 -- a part that goes on to the end is what is left after its start
 pub rest : (a : ℕ) (s : List ℕ) → take (length s - a) (drop a s) ≡ drop a s
 rest a s = take-all (length s - a) (drop a s) (omega (arith, length-drop a s))
-
--- one word more
-pub sum-more : (k : ℕ) (s : List ℕ) → sumOfWords (k + 1) s ≡ numberAt 4 s (4 * k) + sumOfWords k s
-unfolding sumOfWords
-sum-more k s = rw add-one
-
--- the whole words are all
-pub sum-whole : (k : ℕ) (s : List ℕ) → 4 * k ≡ length s → bodySum s ≡ sumOfWords k s
-unfolding bodySum
-sum-whole k s e = ap (λ (n : ℕ). sumOfWords n s) (omega arith)
-
--- or all but the last
-pub sum-short : (k : ℕ) (s : List ℕ) → 4 * k < length s → length s < 4 * k + 4 → bodySum s ≡ numberAt 4 s (4 * k) + sumOfWords k s
-unfolding bodySum
-sum-short k s low high = ap (λ (n : ℕ). sumOfWords n s) more ∙ sum-more k s
-  where
-    more : (length s + 3) / 4 ≡ k + 1
-    more = omega arith

@@ -1,3 +1,2 @@
 pub mod Below
 pub mod Word
-pub mod Checksum

@@ -2,7 +2,7 @@
 use borrow.Author.Needs.{needs}
 use Rattle.catalogue.proofs.units.Statement.{statement}
 use Rattle.catalogue.proofs.units.Tie as tie
-use Rattle.catalogue.proofs.TextLaws.{units-part}
+use Rattle.catalogue.proofs.RowLaws.{units-part}
 
 units-end-requires : tie.Need-units-end-requires
 units-end-requires c κs = search needs

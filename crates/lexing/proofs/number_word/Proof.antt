@@ -1,7 +1,7 @@
 -- The word is found, then read. Assumes nothing.
 use mathlib.Core.Path.{sym, _∙_}
 use native.Mathlib.Omega.{arith}
-use Rattle.lexing.specs.Digits.{decimal}
+use Rattle.digits.specs.Digits.{decimal}
 use Rattle.lexing.specs.Line.{between}
 use Rattle.lexing.proofs.LineLaws.{number-missing, number-found, told-bad, told-is}
 use borrow.Author.Needs.{needs}

@@ -37,17 +37,17 @@ mul-place : tie.Need-mul-place Inv-loop μ-loop
 mul-place c = search needs
 
 element-copy-out-place : tie.Need-element-copy-out-place Inv-loop μ-loop
-element-copy-out-place c = omega (arith, few (c .before .before .before .before .before .args .catalogue .now) (c .before .before .before .before .before .args .rows) (c .before .before .before .before .before .args .places .now) (c .before .before .before .before .before .pre .0))
+element-copy-out-place c = omega (arith, few (c .before .before .before .before .before .args .catalogue .now) (c .before .before .before .before .before .args .rows) (c .before .before .before .before .before .args .places .now) (c .before .before .before .before .before .pre .1))
 
 holds-at-requires : tie.Need-holds-at-requires Inv-loop μ-loop
-holds-at-requires c κs = let a = c .before .before .before .before .before .before .args in stands (a .catalogue .now) (a .rows) (a .places .now) (c .before .before .before .before .before .before .pre .0) (c .before .before .loop .next) (search needs)
+holds-at-requires c κs = let a = c .before .before .before .before .before .before .args in stands (a .catalogue .now) (a .rows) (a .places .now) (c .before .before .before .before .before .before .pre .1) (c .before .before .loop .next) (search needs)
 
 loop-less : tie.Need-loop-less Inv-loop μ-loop
 loop-less c = search needs
 
 loop-again : tie.Need-loop-again Inv-loop μ-loop
 loop-again c = let a = c .before .before .before .before .before .before .before .before .args in
-    let n = c .before .before .before .before .before .before .before .before .pre .0 in
+    let n = c .before .before .before .before .before .before .before .before .pre .1 in
     let l = c .before .before .before .before .loop in
     let e = left-more (a .catalogue .now) (a .rows) (a .places .now) n (a .tree .now) (l .next) false (search needs) (sym (not-true _ (c .if1 .taken)) ∙ c .before .holds-at .ensures) in
     (search needs, search needs, search needs, rw e at (l .inv .3), rw e at (l .inv .4))
@@ -59,7 +59,7 @@ mul-into : tie.Need-mul-into Inv-loop μ-loop
 mul-into c = search needs
 
 slice-write-into : tie.Need-slice-write-into Inv-loop μ-loop
-slice-write-into c = omega (arith, few (c .before .before .before .before .before .before .before .before .args .catalogue .now) (c .before .before .before .before .before .before .before .before .args .rows) (c .before .before .before .before .before .before .before .before .args .places .now) (c .before .before .before .before .before .before .before .before .pre .0), c .before .before .before .before .before .before .before .before .pre .1)
+slice-write-into c = omega (arith, few (c .before .before .before .before .before .before .before .before .args .catalogue .now) (c .before .before .before .before .before .before .before .before .args .rows) (c .before .before .before .before .before .before .before .before .args .places .now) (c .before .before .before .before .before .before .before .before .pre .1), c .before .before .before .before .before .before .before .before .pre .2)
 
 add-count : tie.Need-add-count Inv-loop μ-loop
 add-count c = search needs
@@ -69,7 +69,7 @@ loop-less-2 c = search needs
 
 loop-again-2 : tie.Need-loop-again-2 Inv-loop μ-loop
 loop-again-2 c = let a = c .before .before .before .before .before .before .before .before .args in
-    let n = c .before .before .before .before .before .before .before .before .pre .0 in
+    let n = c .before .before .before .before .before .before .before .before .pre .1 in
     let l = c .before .before .before .before .loop in
     let e = left-more (a .catalogue .now) (a .rows) (a .places .now) n (a .tree .now) (l .next) true (search needs) (sym (not-false _ (c .if1 .left)) ∙ c .before .holds-at .ensures) in
     (search needs, search needs, search needs, omega (arith, rw e at (l .inv .3)), rw add-one (rw e at (l .inv .4)))
@@ -80,7 +80,7 @@ same-length c = search needs
 returns : tie.Need-returns Inv-loop μ-loop
 returns c = let a = c .before .before .before .before .before .args in
     let l = c .before .loop in
-    all-selected (a .tree .now) (a .catalogue .now) (a .rows) (a .places .now) (c .before .before .before .before .before .pre .0) (a .into .now) (l .into) (l .count) (l .next) (search needs) (omega (arith, few (c .before .before .before .before .before .args .catalogue .now) (c .before .before .before .before .before .args .rows) (c .before .before .before .before .before .args .places .now) (c .before .before .before .before .before .pre .0), c .before .before .before .before .before .pre .1)) (l .inv .3) (l .inv .4)
+    all-selected (a .tree .now) (a .catalogue .now) (a .rows) (a .places .now) (c .before .before .before .before .before .pre .1) (a .into .now) (l .into) (l .count) (l .next) (search needs) (omega (arith, few (c .before .before .before .before .before .args .catalogue .now) (c .before .before .before .before .before .args .rows) (c .before .before .before .before .before .args .places .now) (c .before .before .before .before .before .pre .1), c .before .before .before .before .before .pre .2)) (l .inv .3) (l .inv .4)
 
 pub select-spec : {M : Type 1} → statement M
 select-spec =

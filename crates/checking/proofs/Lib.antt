@@ -1,0 +1,2 @@
+mod RowsLaws
+mod CheckLaws
