@@ -7,7 +7,9 @@ use Prim.Native.Nat.{ℕ, zero, suc, _-_, _≤_}
 use native.Mathlib.Nat.{sub-zero}
 use native.Mathlib.Omega.{arith}
 use borrow.Author.Tests.{eq-eqb, ne-eqb}
+use lib.Dec.{eqb}
 use lib.ListN.{length, getD, take, drop, set, length-append, length-map, length-replicate}
+use Rattle.words.proofs.Below.{by-test}
 use Rattle.words.proofs.Options.{some-is}
 use Rattle.catalogue.specs.Plain.{Row, catalogue}
 use Rattle.catalogue.specs.Places.{places, rowSeen}
@@ -76,6 +78,17 @@ module _ (b tree : List ℕ) where
           given = λ w. h ∙ sym (ap handleFor held);
           none-given = λ w. absurd (w refl);
         }
+
+-- where none of them applies there is a tree
+pub open-tree : (held : Option Seat) (tree : List ℕ) → firstCause (openCauses held tree) ≡ 0 → isTree (restriction tree) ≡ true
+unfolding firstCause
+open-tree none tree e = absurd (let z : _≡_ {A = ℕ} 7 0 = e in omega arith)
+open-tree (some s) tree e =
+    by-test (isTree (restriction tree))
+    (λ q. q)
+    (λ q. by-test (eqb (freeHandle s) 0)
+    (λ f. absurd (let z : _≡_ {A = ℕ} 14 0 = rw f at e in omega arith))
+    (λ f. absurd (let z : _≡_ {A = ℕ} 16 0 = rw (f, q) at e in omega arith)))
 
 -- a selection has at most as many rows as there is room for
 pub rows-most : (s : List ℕ) (rows : ℕ) (noted : List ℕ) (found : List Row) → Noted s rows noted → catalogue s ≡ some found → length found ≡ rows

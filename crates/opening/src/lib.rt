@@ -1,9 +1,12 @@
 // What opening a query does to its seat.
 ghost use mathlib.Core.Path.{_≡_};
+ghost use mathlib.Core.Bool.{true};
 ghost use mathlib.Core.Option.{none, some};
 ghost use lib.ListN.{length};
 ghost use Rattle.sessions.specs.Layout.{seatSize, cursorSize, cursorPlace, part, put};
 ghost use Rattle.sessions.specs.Seat.{cursorBlock, seatIn, seatOf, opened};
+ghost use Rattle.restriction.specs.Reader.{restriction};
+ghost use Rattle.restriction.specs.Answer.{isTree};
 ghost use Rattle.select.specs.Select.{selected};
 ghost use Rattle.select.specs.Noted.{Noted};
 ghost use Rattle.opening.specs.Open.{freeHandle};
@@ -58,7 +61,7 @@ pub fn judge(block: &[u32], tree: &[u8]) -> Opened
 
 // Opens a closed cursor on the rows that a tree selects.
 fn fill(block: &mut [u32], tree: &[u8], catalogue: &[u8], rows: u32, places: &[u32; 1024])
-    requires { ⌜ (now block ≡ cursorBlock none) × Noted (now catalogue) rows (now places) ⌝ }
+    requires { ⌜ (now block ≡ cursorBlock none) × (isTree (restriction (now tree)) ≡ true) × Noted (now catalogue) rows (now places) ⌝ }
     ensures { λ _. ⌜ now (block .exit) ≡ cursorBlock (some (opened (selected (now (tree .entry)) (now (catalogue .entry))))) ⌝ }
 {
     let count = select::select(
@@ -80,7 +83,7 @@ pub fn open(
     rows: u32,
     places: &[u32; 1024],
 )
-    requires { ⌜ (length (now block) ≡ seatSize) × (part (now block) (cursorPlace handle) cursorSize ≡ cursorBlock none) × Noted (now catalogue) rows (now places) ⌝ }
+    requires { ⌜ (length (now block) ≡ seatSize) × (part (now block) (cursorPlace handle) cursorSize ≡ cursorBlock none) × (isTree (restriction (now tree)) ≡ true) × Noted (now catalogue) rows (now places) ⌝ }
     ensures { λ _. ⌜ now (block .exit) ≡ put (now (block .entry)) (cursorPlace handle) cursorSize (cursorBlock (some (opened (selected (now (tree .entry)) (now (catalogue .entry)))))) ⌝ }
 {
     let at = messages::cursor_at(handle);

@@ -23,7 +23,7 @@ open-requires : tie.Need-open-requires
 open-requires c κs =
     let a = c .before .before .before .before .before .before .before .before in
     filled-length (a .args .block .now) (selected (a .args .tree .now) (a .args .catalogue .now)) _ (a .pre .0)
-    (selected-few (a .args .tree .now) (a .args .catalogue .now) _ _ (a .pre .1))
+    (selected-few (a .args .tree .now) (a .args .catalogue .now) _ _ (a .pre .2))
     (c .before .before .before .select .ensures .laid)
 
 same-length : tie.Need-same-length
@@ -34,7 +34,7 @@ returns c =
     let a = c .before .before .before .before .before .before .before .before .before .before .before in
     c .before .before .«open» .ensures
     ∙ filled (a .args .block .now) (selected (a .args .tree .now) (a .args .catalogue .now)) _ (a .pre .0)
-    (selected-few (a .args .tree .now) (a .args .catalogue .now) _ _ (a .pre .1))
+    (selected-few (a .args .tree .now) (a .args .catalogue .now) _ _ (a .pre .2))
     (c .before .before .before .before .before .before .select .ensures .laid)
     _
     (c .before .before .before .before .before .before .select .ensures .counted)

@@ -32,7 +32,7 @@ fill-requires : tie.Need-fill-requires
 fill-requires c κs =
     let a = c .before .before .before .before .before in
     let b = a .args .block .now in
-    (part-is b (c .before .cursor-at .result) cursorSize ∙ ap (λ (p : ℕ). part b p cursorSize) (c .before .cursor-at .ensures) ∙ a .pre .1, a .pre .2)
+    (part-is b (c .before .cursor-at .result) cursorSize ∙ ap (λ (p : ℕ). part b p cursorSize) (c .before .cursor-at .ensures) ∙ a .pre .1, a .pre .2, a .pre .3)
 
 same-length : tie.Need-same-length
 same-length c = search needs

@@ -40,7 +40,7 @@ element-copy-out-place : tie.Need-element-copy-out-place Inv-loop μ-loop
 element-copy-out-place c = omega (arith, few (c .before .before .before .before .before .args .catalogue .now) (c .before .before .before .before .before .args .rows) (c .before .before .before .before .before .args .places .now) (c .before .before .before .before .before .pre .1))
 
 holds-at-requires : tie.Need-holds-at-requires Inv-loop μ-loop
-holds-at-requires c κs = let a = c .before .before .before .before .before .before .args in stands (a .catalogue .now) (a .rows) (a .places .now) (c .before .before .before .before .before .before .pre .1) (c .before .before .loop .next) (search needs)
+holds-at-requires c κs = let a = c .before .before .before .before .before .before in (a .pre .0, stands (a .args .catalogue .now) (a .args .rows) (a .args .places .now) (a .pre .1) (c .before .before .loop .next) (search needs))
 
 loop-less : tie.Need-loop-less Inv-loop μ-loop
 loop-less c = search needs
