@@ -27,7 +27,7 @@ fn judge(table: &[u32], bytes: &[u8], seat: u32, places: &mut [u32; 1024]) -> Ju
             rows: 0,
         };
     }
-    if !sessions::well(table) {
+    if !tables::well(table) {
         return Judged {
             refusal: 2,
             rows: 0,
@@ -42,7 +42,7 @@ fn judge(table: &[u32], bytes: &[u8], seat: u32, places: &mut [u32; 1024]) -> Ju
             rows: 0,
         };
     }
-    if !sessions::below(table, rows) {
+    if !tables::below(table, rows) {
         return Judged {
             refusal: 3,
             rows: 0,
