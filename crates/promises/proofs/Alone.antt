@@ -21,8 +21,8 @@ use Rattle.sessions.proofs.Tables.{seat-same, seat-other}
 use Rattle.refusals.specs.Refusal.{firstCause}
 use Rattle.refusals.proofs.First.{first-go}
 use Rattle.fetching.specs.Ready.{rowsOf}
-use Rattle.messages.specs.Message.{seatMessage}
-use Rattle.messages.proofs.Bodies.{with-fits}
+use Rattle.outcomes.specs.Message.{seatMessage}
+use Rattle.outcomes.proofs.Bodies.{with-fits}
 use Rattle.keeping.proofs.Keeping.{message-fits}
 use Rattle.opening.specs.Open.{freeHandle, openCauses, openedOn}
 use Rattle.server.specs.Step.{Sources, sourcesOf, Outcome, judging, seatHeld, isConnected, seated, sizing, connectStep, messageStep, openDone, openStep}

@@ -25,7 +25,7 @@ use Rattle.requests.specs.Request.{request}
 use Rattle.rows.specs.Page.{blocks, returned, rowSpans, rowsSpans, pageBytes}
 use Rattle.sessions.specs.Layout.{seats}
 use Rattle.sessions.specs.Seat.{Seat}
-use Rattle.messages.specs.Message.{kindFrom, seatMessage}
+use Rattle.outcomes.specs.Message.{kindFrom, seatMessage}
 use Rattle.server.specs.Step.{Sources, sourcesOf, seatHeld}
 use Rattle.server.proofs.Passing.{Passing}
 use Rattle.promises.specs.Calls.{Call, seatOfCall, step, Answer, Event, history, freshTable}

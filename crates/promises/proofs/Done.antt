@@ -14,7 +14,7 @@ use Rattle.spans.specs.Laid.{fourWords}
 use Rattle.sessions.specs.Seat.{Seat, fresh}
 use Rattle.refusals.specs.Refusal.{firstCause}
 use Rattle.fetching.specs.Ready.{rowsOf}
-use Rattle.messages.specs.Message.{msgOf, kindOf, kindFrom, served, stillOpen, seatCauses, seatMessage}
+use Rattle.outcomes.specs.Message.{msgOf, kindOf, kindFrom, served, stillOpen, seatCauses, seatMessage}
 use Rattle.keeping.proofs.Keeping.{message-fits}
 use Rattle.server.specs.Step.{Sources, sourcesOf, judging, seatHeld, seated, sizing, messageStep}
 use Rattle.server.proofs.Seating.{seat-ok}

@@ -20,7 +20,7 @@ use Rattle.requests.specs.Request.{request, Sound}
 use Rattle.requests.specs.declared.Request.{Request}
 use Rattle.fetching.specs.Fetch.{fetchReply}
 use Rattle.fetching.specs.Ready.{rowsOf}
-use Rattle.messages.specs.Message.{msgOf, handleOf, kindOf, kindFrom, served, isOpen, seatCauses, doneOn, seatMessage}
+use Rattle.outcomes.specs.Message.{msgOf, handleOf, kindOf, kindFrom, served, isOpen, seatCauses, doneOn, seatMessage}
 use Rattle.server.specs.Step.{Sources, sourcesOf, judging, seatHeld, sizing, messageStep}
 use Rattle.server.proofs.Seating.{seat-ok}
 use Rattle.promises.specs.Calls.{Call, messaging, step, answerOf, history, after, freshTable}

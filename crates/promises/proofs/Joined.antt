@@ -12,7 +12,7 @@ use Rattle.words.proofs.Below.{by-test}
 use Rattle.bindings.specs.Bindings.{Bindings}
 use Rattle.bindings.specs.Plain.{bindings}
 use Rattle.sessions.specs.Seat.{Cursor}
-use Rattle.messages.specs.Message.{msgOf, handleOf}
+use Rattle.outcomes.specs.Message.{msgOf, handleOf}
 use Rattle.server.specs.Step.{Sources}
 use Rattle.promises.specs.Calls.{Call, connecting, opening, messaging, Answer, Event}
 use Rattle.promises.specs.Told.{carriedOn, boundOn, accepted, afterMessage, afterCall, cursorTold}

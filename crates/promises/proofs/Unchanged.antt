@@ -12,7 +12,7 @@ use Rattle.sessions.specs.Seat.{Seat}
 use Rattle.refusals.specs.Refusal.{firstCause}
 use Rattle.refusals.proofs.First.{first-under}
 use Rattle.fetching.specs.Ready.{rowsOf}
-use Rattle.messages.specs.Message.{seatCauses, seatMessage}
+use Rattle.outcomes.specs.Message.{seatCauses, seatMessage}
 use Rattle.opening.specs.Open.{openCauses}
 use Rattle.server.specs.Step.{Sources, judging, seatHeld, sizing, connectCauses, connectStep, messageStep, openDone, openStep}
 use Rattle.server.proofs.Unchanged.{connect-unchanged, open-unchanged, message-unchanged}

@@ -10,9 +10,9 @@ use Rattle.words.specs.Checksum.{messageSized}
 use Rattle.sessions.specs.Layout.{seatSize, seatAt, put}
 use Rattle.fetching.specs.Ready.{rowsOf}
 use Rattle.refusals.specs.Refusal.{firstCause}
-use Rattle.messages.specs.Message.{seatMessage}
-use Rattle.messages.specs.Answers.{Answers}
-use Rattle.messages.specs.declared.Answered.{Answered}
+use Rattle.outcomes.specs.Message.{seatMessage}
+use Rattle.outcomes.specs.Answers.{Answers}
+use Rattle.outcomes.specs.declared.Answered.{Answered}
 use Rattle.refusals.proofs.First.{first-stop, first-go}
 use Rattle.server.specs.Step.{Sources, Keeps, judging, seatHeld, sizing, messageStep}
 use Rattle.server.proofs.Causes.{judging-numbered}

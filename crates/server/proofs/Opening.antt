@@ -20,9 +20,9 @@ use Rattle.sessions.specs.Seat.{Cursor, Seat, cursorBlock, seatBlock, withCurso
 use Rattle.sessions.specs.Well.{tableWell}
 use Rattle.sessions.specs.Fits.{CursorOk, SeatOk}
 use Rattle.sessions.proofs.Seats.{cursor-block}
-use Rattle.messages.specs.Message.{isOpen}
+use Rattle.outcomes.specs.Message.{isOpen}
 use Rattle.refusals.specs.Refusal.{firstCause}
-use Rattle.messages.proofs.Bodies.{put-handle}
+use Rattle.outcomes.proofs.Bodies.{put-handle}
 use Rattle.refusals.proofs.First.{first-stop, first-go}
 use Rattle.opening.specs.Open.{freeHandle, openCauses, openedOn}
 use Rattle.server.specs.Step.{Sources, Keeps, rowsHold, judging, seatHeld, seated, openDone, openStep}

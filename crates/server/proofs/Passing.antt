@@ -31,8 +31,8 @@ use Rattle.sessions.proofs.Seats.{seat-block}
 use Rattle.sessions.proofs.Tables.{same-or-not, seat-same, seat-other, still-well}
 use Rattle.refusals.specs.Refusal.{firstCause}
 use Rattle.fetching.specs.Ready.{rowsOf}
-use Rattle.messages.specs.Message.{seatMessage}
-use Rattle.messages.proofs.Bodies.{with-fits}
+use Rattle.outcomes.specs.Message.{seatMessage}
+use Rattle.outcomes.proofs.Bodies.{with-fits}
 use Rattle.refusals.proofs.First.{first-both}
 use Rattle.keeping.proofs.Keeping.{message-fits, message-below}
 use Rattle.opening.specs.Open.{freeHandle, openCauses, openedOn}

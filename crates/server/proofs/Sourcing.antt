@@ -20,7 +20,7 @@ use Rattle.sessions.specs.Layout.{seats, seatSize}
 use Rattle.sessions.specs.Well.{seatBelow}
 use Rattle.sessions.proofs.Judging.{part-is}
 use Rattle.fetching.specs.Ready.{rowsOf, Placed}
-use Rattle.messages.specs.Answers.{Sourced}
+use Rattle.outcomes.specs.Answers.{Sourced}
 use Rattle.server.specs.Step.{rowsHold, seatHeld}
 use Rattle.server.specs.Judgement.{Judgement}
 use Rattle.server.specs.declared.Judged.{Judged}

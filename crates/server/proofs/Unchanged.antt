@@ -18,7 +18,7 @@ use Rattle.refusals.specs.Refusal.{firstCause}
 use Rattle.requests.specs.Request.{request}
 use Rattle.requests.specs.declared.Request.{Request}
 use Rattle.fetching.specs.Ready.{rowsOf}
-use Rattle.messages.specs.Message.{kindOf, msgOf, handleOf, seatCauses, rowsDone, doneOn, doneBy, seatMessage}
+use Rattle.outcomes.specs.Message.{kindOf, msgOf, handleOf, seatCauses, rowsDone, doneOn, doneBy, seatMessage}
 use Rattle.refusals.proofs.First.{first-both}
 use Rattle.opening.specs.Open.{openCauses}
 use Rattle.server.specs.Step.{Sources, Outcome, judging, seatHeld, seated, sizing, connectCauses, connectStep, messageStep, openDone, openStep}

@@ -14,7 +14,7 @@ use Rattle.sessions.specs.Seat.{Seat, seatBlock, seatOf, fresh}
 use Rattle.sessions.specs.Well.{tableWell, tableBelow}
 use Rattle.refusals.specs.Refusal.{firstCause}
 use Rattle.fetching.specs.Ready.{rowsOf}
-use Rattle.messages.specs.Message.{SeatOutcome, seatMessage}
+use Rattle.outcomes.specs.Message.{SeatOutcome, seatMessage}
 use Rattle.opening.specs.Open.{freeHandle, openCauses, openedOn}
 
 -- what a call reads beside the table: the rows of the catalogue, none where it is malformed

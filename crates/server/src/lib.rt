@@ -4,7 +4,7 @@ ghost use lib.ListN.{length};
 ghost use Prim.Native.Nat.{_+_, _<_};
 ghost use Rattle.server.specs.Step.{sourcesOf, connectStep, openStep, messageStep, Keeps};
 ghost use Rattle.server.specs.Judgement.{Judgement};
-use messages::Answered;
+use outcomes::Answered;
 
 // A seat and a cursor's handle: types of their own, as a row's number is (`rows::Row`), so that none can stand for another.
 pub struct Seat(pub u32);

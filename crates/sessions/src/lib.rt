@@ -1,4 +1,5 @@
 // The session table: the places of its words.
+
 pub const SEATS: u32 = 8;
 
 pub const SEAT_SIZE: usize = 2150;
