@@ -70,7 +70,7 @@ fn fetch(
     }
     let at = handles::cursor_at(handle);
     let end = at + sessions::CURSOR_SIZE;
-    let refusal = fetching::fetch(&mut block[at..end], q, s, places, reply);
+    let refusal = serving::fetch(&mut block[at..end], q, s, places, reply);
     if refusal != 0 {
         return gates::refuse(reply, msg, refusal);
     }

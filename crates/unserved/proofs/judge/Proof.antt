@@ -1,8 +1,8 @@
--- `fetching::judge` meets its contract: each cause in turn. Assumes nothing.
+-- `unserved::judge` meets its contract: each cause in turn. Assumes nothing.
 use borrow.Author.Needs.{needs}
-use Rattle.fetching.proofs.judge.Statement.{statement}
-use Rattle.fetching.proofs.judge.Tie as tie
+use Rattle.unserved.proofs.judge.Statement.{statement}
+use Rattle.unserved.proofs.judge.Tie as tie
 use Rattle.fetching.proofs.Judging.{no-bindings, other-width, unserved, all-served}
 use mathlib.Core.Path.{sym, _∙_}
 
 shared-slice-read-if1 : tie.Need-shared-slice-read-if1

@@ -1,6 +1,6 @@
--- `fetching::not_served` meets its contract: each part of the seek in turn. Assumes nothing.
-use Rattle.fetching.proofs.not_served.Statement.{statement}
-use Rattle.fetching.proofs.not_served.Tie as tie
+-- `unserved::not_served` meets its contract: each part of the seek in turn. Assumes nothing.
+use Rattle.unserved.proofs.not_served.Statement.{statement}
+use Rattle.unserved.proofs.not_served.Tie as tie
 use borrow.Author.Tests.{eq-eqb, ne-eqb}
 
 returns : tie.Need-returns

@@ -1,12 +1,12 @@
--- `fetching::first_unfit` meets its contract: no row asked for, none left, or the room of the first one. Assumes nothing.
+-- `unserved::first_unfit` meets its contract: no row asked for, none left, or the room of the first one. Assumes nothing.
 use borrow.Author.Needs.{needs}
-use Rattle.fetching.proofs.first_unfit.Statement.{statement}
-use Rattle.fetching.proofs.first_unfit.Tie as tie
+use Rattle.unserved.proofs.first_unfit.Statement.{statement}
+use Rattle.unserved.proofs.first_unfit.Tie as tie
 use Rattle.fetching.proofs.Sending.{inside, remaining-length}
 use Rattle.fetching.proofs.Judging.{none-asked, none-left, one-left, room-less}
 use Rattle.fetching.proofs.Facts.{size-is, count-most, position-most, words-ready, width-most, first-there, first-row}
 use Rattle.fetching.specs.Ready.{rowsOf}
 use Rattle.fetching.specs.Fetch.{remaining}
 use Rattle.sessions.specs.Seat.{cursorHeld}
 use Rattle.catalogue.specs.Plain.{catalogue}
 use lib.Dec.{ltb}

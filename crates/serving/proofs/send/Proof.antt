@@ -1,9 +1,9 @@
--- `fetching::send` meets its contract: the page is given the rows that remain and says how many it sent. Assumes nothing.
+-- `serving::send` meets its contract: the page is given the rows that remain and says how many it sent. Assumes nothing.
 use borrow.Author.Needs.{needs}
-use Rattle.fetching.proofs.send.Statement.{statement}
-use Rattle.fetching.proofs.send.Tie as tie
+use Rattle.serving.proofs.send.Statement.{statement}
+use Rattle.serving.proofs.send.Tie as tie
 use Rattle.fetching.proofs.Sending.{page-ready, page-sent}
 use Rattle.fetching.proofs.Facts.{size-is, count-most, position-most, all-there, words-ready, width-most}
 use native.Mathlib.Omega.{arith}
 
 shared-slice-read-first : tie.Need-shared-slice-read-first

@@ -1,10 +1,10 @@
--- `fetching::fetch` meets its contract: the request is judged, the rows are sent, and the cursor is moved past them. Assumes nothing.
+-- `serving::fetch` meets its contract: the request is judged, the rows are sent, and the cursor is moved past them. Assumes nothing.
 use borrow.Author.Needs.{needs}
-use Rattle.fetching.proofs.fetch.Statement.{statement}
-use Rattle.fetching.proofs.fetch.Tie as tie
+use Rattle.serving.proofs.fetch.Statement.{statement}
+use Rattle.serving.proofs.fetch.Tie as tie
 use Rattle.fetching.proofs.Fetching.{early-refused, late-refused, fetch-done}
 use Rattle.fetching.proofs.Sending.{sent-most}
 use Rattle.fetching.proofs.Facts.{size-is, count-most}
 use native.Mathlib.Omega.{arith}
 use mathlib.Core.Path.{sym, _∙_}
 
