@@ -26,8 +26,8 @@ use Rattle.rows.specs.Page.{blocks, returned, rowSpans, rowsSpans, pageBytes}
 use Rattle.sessions.specs.Layout.{seats}
 use Rattle.sessions.specs.Seat.{Seat}
 use Rattle.outcomes.specs.Message.{kindFrom, seatMessage}
-use Rattle.server.specs.Step.{Sources, sourcesOf, seatHeld}
-use Rattle.server.proofs.Passing.{Passing}
+use Rattle.steps.specs.Step.{Sources, sourcesOf, seatHeld}
+use Rattle.steps.proofs.Passing.{Passing}
 use Rattle.promises.specs.Calls.{Call, seatOfCall, step, Answer, Event, history, freshTable}
 use Rattle.promises.specs.Case.{caseCalls, caseEvents}
 use Rattle.promises.proofs.Reached.{step-passes, fresh-seat, fresh-passes}

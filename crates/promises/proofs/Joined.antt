@@ -13,7 +13,7 @@ use Rattle.bindings.specs.Bindings.{Bindings}
 use Rattle.bindings.specs.Plain.{bindings}
 use Rattle.sessions.specs.Seat.{Cursor}
 use Rattle.outcomes.specs.Message.{msgOf, handleOf}
-use Rattle.server.specs.Step.{Sources}
+use Rattle.steps.specs.Step.{Sources}
 use Rattle.promises.specs.Calls.{Call, connecting, opening, messaging, Answer, Event}
 use Rattle.promises.specs.Told.{carriedOn, boundOn, accepted, afterMessage, afterCall, cursorTold}
 use Rattle.promises.specs.Rows.{countIn, pageOn, joinedMessage, joinedCall, rowsTold, firstRows}

@@ -11,7 +11,7 @@ use Rattle.refusals.specs.Refusal.{statusOf}
 use Rattle.fetching.specs.Ready.{rowsOf}
 use Rattle.outcomes.specs.Message.{msgOf, seatCauses}
 use Rattle.opening.specs.Open.{openCauses}
-use Rattle.server.specs.Step.{Sources, Outcome, judging, seatHeld, sizing, connectCauses}
+use Rattle.steps.specs.Step.{Sources, Outcome, judging, seatHeld, sizing, connectCauses}
 use Rattle.promises.specs.Calls.{Call, connecting, opening, messaging}
 
 -- every cause that the call judges, each its number and whether it applies

@@ -20,7 +20,7 @@ use Rattle.rows.specs.Page.{Fits, pageSpans, pageBytes, endOfRows}
 use Rattle.rows.specs.Reads.{rowIn, rowPlace, blockPlace, Reads, HeadReads}
 use Rattle.fetching.specs.Fetch.{numbered, remaining}
 use Rattle.outcomes.specs.Message.{msgOf, handleOf}
-use Rattle.server.specs.Step.{Sources}
+use Rattle.steps.specs.Step.{Sources}
 use Rattle.promises.specs.Calls.{Call, connecting, opening, messaging, Answer, Event}
 use Rattle.promises.specs.Told.{accepted, afterCall, cursorTold, heldCursor}
 

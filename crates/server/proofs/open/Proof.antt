@@ -9,16 +9,16 @@ use lib.ListN.{length, length-replicate}
 use Rattle.sessions.specs.Layout.{seatSize, cursorSize, cursorPlace, part, put}
 use Rattle.sessions.proofs.Judging.{part-is}
 use Rattle.sessions.proofs.Tables.{table-length, block-size}
-use Rattle.server.specs.Step.{sourcesOf, seatHeld}
-use Rattle.server.proofs.Causes.{passes}
-use Rattle.server.proofs.Opening.{open-judged, open-refused, open-done, places-noted, open-seat, part-closed, part-opened}
+use Rattle.steps.specs.Step.{sourcesOf, seatHeld}
+use Rattle.steps.proofs.Causes.{passes}
+use Rattle.steps.proofs.Opening.{open-judged, open-refused, open-done, places-noted, open-seat, part-closed, part-opened}
 use mathlib.Core.Option.{some}
 use mathlib.Core.List.{List}
 use Rattle.sessions.specs.Seat.{opened, cursorBlock}
 use Rattle.select.specs.Select.{selected}
 use Rattle.opening.specs.Open.{openedOn}
 use Rattle.opening.specs.Answer.{handleFor}
-use Rattle.server.proofs.Seating.{seated-is}
+use Rattle.steps.proofs.Seating.{seated-is}
 
 judge-requires : tie.Need-judge-requires
 judge-requires c κs = search needs

@@ -14,9 +14,9 @@ use Rattle.outcomes.specs.Message.{seatMessage}
 use Rattle.outcomes.specs.Answers.{Answers}
 use Rattle.outcomes.specs.declared.Answered.{Answered}
 use Rattle.refusals.proofs.First.{first-stop, first-go}
-use Rattle.server.specs.Step.{Sources, Keeps, judging, seatHeld, sizing, messageStep}
-use Rattle.server.proofs.Causes.{judging-numbered}
-use Rattle.server.proofs.Seating.{seated-is}
+use Rattle.steps.specs.Step.{Sources, Keeps, judging, seatHeld, sizing, messageStep}
+use Rattle.steps.proofs.Causes.{judging-numbered}
+use Rattle.steps.proofs.Seating.{seated-is}
 
 module _ (src : Sources) (t : List ℕ) (seat : ℕ) (m : List ℕ) (entry : List ℕ) where
   by-cause : (n : ℕ) → firstCause (judging src t seat ++ sizing m (length entry)) ≡ n → (n ≡ 0 → ⊥)

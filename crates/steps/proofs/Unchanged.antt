@@ -21,9 +21,9 @@ use Rattle.fetching.specs.Ready.{rowsOf}
 use Rattle.outcomes.specs.Message.{kindOf, msgOf, handleOf, seatCauses, rowsDone, doneOn, doneBy, seatMessage}
 use Rattle.refusals.proofs.First.{first-both}
 use Rattle.opening.specs.Open.{openCauses}
-use Rattle.server.specs.Step.{Sources, Outcome, judging, seatHeld, seated, sizing, connectCauses, connectStep, messageStep, openDone, openStep}
-use Rattle.server.proofs.Causes.{judging-numbered, passes}
-use Rattle.server.proofs.Seating.{block-is}
+use Rattle.steps.specs.Step.{Sources, Outcome, judging, seatHeld, seated, sizing, connectCauses, connectStep, messageStep, openDone, openStep}
+use Rattle.steps.proofs.Causes.{judging-numbered, passes}
+use Rattle.steps.proofs.Seating.{block-is}
 
 -- what a refused call leaves: no handle, the words as they were, and nothing or the sixteen bytes of a header in the buffer
 pub record Unchanged (o : Outcome) (t : List ℕ) : Type 0 where

@@ -15,7 +15,7 @@ use Rattle.sessions.specs.Well.{tableWell}
 use Rattle.sessions.specs.Fits.{SeatOk}
 use Rattle.sessions.proofs.Seats.{seat-back}
 use Rattle.sessions.proofs.Tables.{table-length, table-seat, block-size}
-use Rattle.server.specs.Step.{seatHeld, isConnected, seated}
+use Rattle.steps.specs.Step.{seatHeld, isConnected, seated}
 
 -- a word of a seat's block, in the table
 pub block-word : (t : List ℕ) (seat i : ℕ) → i < seatSize → getD (blockOf t seat) i 0 ≡ getD t (seatAt seat + i) 0

@@ -2,7 +2,7 @@
 use mathlib.Core.Path.{_≡_, sym, _∙_}
 use mathlib.Core.List.{List}
 use Prim.Native.Nat.{ℕ}
-use Rattle.server.specs.Step.{Outcome, Keeps}
+use Rattle.steps.specs.Step.{Outcome, Keeps}
 
 -- the same answer, the same words, the same bytes, for every call whose statement is `Keeps` of its step
 pub record Same (refusal refusal′ handle handle′ count count′ : ℕ) (words words′ exit exit′ : List ℕ) : Type 0 where

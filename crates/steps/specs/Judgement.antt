@@ -4,8 +4,8 @@ use mathlib.Core.List.{List}
 use Prim.Native.Nat.{ℕ}
 use Rattle.catalogue.specs.Places.{checked, noted}
 use Rattle.refusals.specs.Refusal.{firstCause}
-use Rattle.server.specs.Step.{sourcesOf, judging}
-use Rattle.server.specs.declared.Judged.{Judged}
+use Rattle.steps.specs.Step.{sourcesOf, judging}
+use Rattle.steps.specs.declared.Judged.{Judged}
 
 -- the first of refusals 1 to 3; where none applies, the row count, and the place of each row over what the array held
 pub record Judgement (t s : List ℕ) (seat : ℕ) (r : Judged) (held found : List ℕ) : Type 0 where

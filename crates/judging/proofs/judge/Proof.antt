@@ -1,14 +1,14 @@
--- `server::judge` meets its contract: each answer is the first cause that applies, by the tests that led to it. Assumes nothing.
+-- `judging::judge` meets its contract: each answer is the first cause that applies, by the tests that led to it. Assumes nothing.
 use borrow.Author.Needs.{needs}
-use Rattle.server.proofs.judge.Statement.{statement}
-use Rattle.server.proofs.judge.Tie as tie
+use Rattle.judging.proofs.judge.Statement.{statement}
+use Rattle.judging.proofs.judge.Tie as tie
 use mathlib.Core.Path.{sym, ap, _∙_}
 use Prim.Native.Nat.{ℕ}
 use native.Mathlib.Omega.{arith}
 use borrow.Author.Tests.{not-true, not-false}
 use Rattle.catalogue.specs.declared.Checked.{Checked}
 use Rattle.sessions.specs.Well.{tableBelow}
-use Rattle.server.proofs.Causes.{seat-refused, table-refused, rows-refused, none-refused, rows-hold, no-rows, judged-by, judged-none}
+use Rattle.steps.proofs.Causes.{seat-refused, table-refused, rows-refused, none-refused, rows-hold, no-rows, judged-by, judged-none}
 
 returns : tie.Need-returns
 returns c =

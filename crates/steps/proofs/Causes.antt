@@ -15,8 +15,8 @@ use Rattle.sessions.specs.Layout.{seats}
 use Rattle.sessions.specs.Well.{tableWell, tableBelow}
 use Rattle.refusals.specs.Refusal.{firstCause}
 use Rattle.refusals.proofs.First.{Numbered}
-use Rattle.server.specs.Step.{Sources, sourcesOf, rowsHold, judging}
-use Rattle.server.specs.Judgement.{Judgement}
+use Rattle.steps.specs.Step.{Sources, sourcesOf, rowsHold, judging}
+use Rattle.steps.specs.Judgement.{Judgement}
 
 pub judging-numbered : (src : Sources) (t : List ℕ) (seat : ℕ) → Numbered (judging src t seat)
 judging-numbered src t seat = ((λ e. omega arith), ((λ e. omega arith), ((λ e. omega arith), tt)))

@@ -21,10 +21,10 @@ use Rattle.sessions.specs.Well.{seatBelow}
 use Rattle.sessions.proofs.Judging.{part-is}
 use Rattle.fetching.specs.Ready.{rowsOf, Placed}
 use Rattle.outcomes.specs.Answers.{Sourced}
-use Rattle.server.specs.Step.{rowsHold, seatHeld}
-use Rattle.server.specs.Judgement.{Judgement}
-use Rattle.server.specs.declared.Judged.{Judged}
-use Rattle.server.proofs.Passing.{seat-below}
+use Rattle.steps.specs.Step.{rowsHold, seatHeld}
+use Rattle.steps.specs.Judgement.{Judgement}
+use Rattle.steps.specs.declared.Judged.{Judged}
+use Rattle.steps.proofs.Passing.{seat-below}
 
 -- a member of a list of rows seen at places
 row-at : (s at : List ℕ) (k : ℕ) → k < length at → rowIn (map (rowSeen s) at) k ≡ rowSeen s (getD at k 0)

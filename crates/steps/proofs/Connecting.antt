@@ -8,9 +8,9 @@ use native.Mathlib.Omega.{arith}
 use borrow.Author.Tests.{ne-eqb}
 use Rattle.sessions.specs.Seat.{fresh}
 use Rattle.refusals.specs.Refusal.{firstCause}
-use Rattle.server.specs.Step.{Sources, Outcome, Keeps, quiet, judging, seatHeld, isConnected, seated, connectCauses, connectStep}
+use Rattle.steps.specs.Step.{Sources, Outcome, Keeps, quiet, judging, seatHeld, isConnected, seated, connectCauses, connectStep}
 use Rattle.refusals.proofs.First.{first-stop, first-go}
-use Rattle.server.proofs.Causes.{judging-numbered}
+use Rattle.steps.proofs.Causes.{judging-numbered}
 
 -- an outcome of which nothing is written
 quietly : (o : Outcome) (n : ℕ) (words : List ℕ) → o ≡ quiet n words → Keeps o n 0 0 words [] []

@@ -36,9 +36,9 @@ use Rattle.outcomes.proofs.Bodies.{with-fits}
 use Rattle.refusals.proofs.First.{first-both}
 use Rattle.keeping.proofs.Keeping.{message-fits, message-below}
 use Rattle.opening.specs.Open.{freeHandle, openCauses, openedOn}
-use Rattle.server.specs.Step.{Sources, sourcesOf, openDone, openStep, rowsHold, judging, seatHeld, isConnected, seated, sizing, connectCauses, connectStep, messageStep}
-use Rattle.server.proofs.Causes.{judging-numbered, passes}
-use Rattle.server.proofs.Seating.{seat-ok}
+use Rattle.steps.specs.Step.{Sources, sourcesOf, openDone, openStep, rowsHold, judging, seatHeld, isConnected, seated, sizing, connectCauses, connectStep, messageStep}
+use Rattle.steps.proofs.Causes.{judging-numbered, passes}
+use Rattle.steps.proofs.Seating.{seat-ok}
 
 -- a table that 2 and 3 let pass
 pub record Passing (src : Sources) (t : List ℕ) : Type 0 where

@@ -25,11 +25,11 @@ use Rattle.refusals.specs.Refusal.{firstCause}
 use Rattle.outcomes.proofs.Bodies.{put-handle}
 use Rattle.refusals.proofs.First.{first-stop, first-go}
 use Rattle.opening.specs.Open.{freeHandle, openCauses, openedOn}
-use Rattle.server.specs.Step.{Sources, Keeps, rowsHold, judging, seatHeld, seated, openDone, openStep}
-use Rattle.server.specs.Judgement.{Judgement}
-use Rattle.server.specs.declared.Judged.{Judged}
-use Rattle.server.proofs.Causes.{judging-numbered, no-rows}
-use Rattle.server.proofs.Seating.{block-is, seat-ok}
+use Rattle.steps.specs.Step.{Sources, Keeps, rowsHold, judging, seatHeld, seated, openDone, openStep}
+use Rattle.steps.specs.Judgement.{Judgement}
+use Rattle.steps.specs.declared.Judged.{Judged}
+use Rattle.steps.proofs.Causes.{judging-numbered, no-rows}
+use Rattle.steps.proofs.Seating.{block-is, seat-ok}
 
 module _ (src : Sources) (t : List ℕ) (seat : ℕ) (tree : List ℕ) where
   by-cause : (n : ℕ) → firstCause (judging src t seat ++ openCauses (seatHeld t seat) tree) ≡ n → (n ≡ 0 → ⊥)
