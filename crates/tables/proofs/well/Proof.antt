@@ -6,10 +6,11 @@ use mathlib.Core.Path.{_≡_, sym, _∙_}
 use mathlib.Core.Bool.{true}
 use Prim.Native.Nat.{ℕ, _≤_, _<_, _-_, _*_}
 use native.Mathlib.Omega.{arith}
+use lib.ListN.{length}
 use borrow.Author.Count.{below-none, below-more}
 use borrow.Author.Tests.{eq-eqb, ne-eqb, not-true, not-false}
 use Rattle.words.proofs.Below.{both-stop, both-go, every-shown, every-broken}
-use Rattle.sessions.specs.Layout.{seatSize, blockOf}
+use Rattle.sessions.specs.Layout.{seatSize, tableSize, blockOf}
 use Rattle.sessions.specs.Well.{seatWell, tableWell}
 use Rattle.sessions.proofs.Judging.{part-is}
 
@@ -21,7 +22,7 @@ abbrev μ-loop : tie.MeasureT-loop
 
 returns : tie.Need-returns Inv-loop μ-loop
 unfolding tableWell
-returns c = sym (both-stop _ (ne-eqb _ _ (c .if1 .taken)))
+returns c = sym (both-stop _ (ne-eqb (length (c .before .before .args .table .now)) tableSize (c .if1 .taken)))
 
 loop-holds : tie.Need-loop-holds Inv-loop μ-loop
 loop-holds c = (search needs, below-none _)
@@ -53,7 +54,7 @@ returns-2 c =
     let seat = c .before .before .before .before .loop .seat in
     let t = c .before .before .before .before .before .before .before .args .table .now in
     sym
-    (both-go _ (eq-eqb _ _ (c .before .before .before .before .before .if1 .left))
+    (both-go _ (eq-eqb (length t) tableSize (c .before .before .before .before .before .if1 .left))
     ∙ every-broken 8 _ seat (search needs) (sym (rw (part-is t (seatSize * seat) seatSize) at (c .before .seat-well .ensures)) ∙ not-true _ (c .if2 .taken)))
 
 add-seat : tie.Need-add-seat Inv-loop μ-loop
@@ -75,7 +76,8 @@ returns-3 : tie.Need-returns-3 Inv-loop μ-loop
 unfolding tableWell
 returns-3 c =
     let l = c .before .loop in
-    sym (both-go _ (eq-eqb _ _ (c .before .before .if1 .left)) ∙ every-shown 8 _ (λ k h. l .inv .1 k (omega (arith, h))))
+    let t = c .before .before .before .before .args .table .now in
+    sym (both-go _ (eq-eqb (length t) tableSize (c .before .before .if1 .left)) ∙ every-shown 8 _ (λ k h. l .inv .1 k (omega (arith, h))))
 
 pub well-spec : {M : Type 1} → statement M
 well-spec =
