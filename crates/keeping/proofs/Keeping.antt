@@ -25,9 +25,9 @@ use Rattle.requests.specs.declared.Request.{Request}
 use Rattle.requests.proofs.Ranges.{request-sound}
 use Rattle.fetching.specs.Fetch.{sent, fetched}
 use Rattle.fetching.proofs.Sending.{sent-left, sound-inside}
-use Rattle.messages.specs.Message.{msgOf, kindOf, handleOf, gateCauses, isOpen, bodyCauses, bodyOf, seatCauses, unread, unfit, boundTo, rowsDone, doneOn, seatMessage}
+use Rattle.outcomes.specs.Message.{msgOf, kindOf, handleOf, gateCauses, isOpen, bodyCauses, bodyOf, seatCauses, unread, unfit, boundTo, rowsDone, doneOn, seatMessage}
 use Rattle.refusals.proofs.First.{first-both}
-use Rattle.messages.proofs.Answering.{gate-numbered}
+use Rattle.outcomes.proofs.Answering.{gate-numbered}
 use Rattle.keeping.proofs.Tidy.{bindings-tidy}
 
 -- what holds of each cursor of a seat

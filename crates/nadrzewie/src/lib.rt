@@ -4,7 +4,7 @@ ghost use mathlib.Core.List.{[]};
 ghost use lib.ListN.{length};
 ghost use Rattle.checksum.specs.Checksum.{checksumTold};
 ghost use Rattle.catalogue.specs.Plain.{catalogue, refusalOf};
-ghost use Rattle.server.specs.Step.{sourcesOf, connectStep, openStep, messageStep, Keeps};
+ghost use Rattle.steps.specs.Step.{sourcesOf, connectStep, openStep, messageStep, Keeps};
 
 // Refusal 3 where the catalogue is malformed, else 0.
 #[no_mangle]

@@ -27,7 +27,7 @@ use Rattle.sessions.specs.Seat.{Seat, zeros, cursorBlock, seatIn, seatOf, opene
 use Rattle.sessions.proofs.Tables.{put-length}
 use Rattle.sessions.proofs.Writes.{opened-block}
 use Rattle.refusals.specs.Refusal.{firstCause}
-use Rattle.messages.specs.Message.{isOpen}
+use Rattle.outcomes.specs.Message.{isOpen}
 use Rattle.opening.specs.Open.{freeHandle, openCauses}
 use Rattle.opening.specs.Answer.{handleFor, Judged}
 

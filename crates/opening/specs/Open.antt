@@ -10,7 +10,7 @@ use Rattle.restriction.specs.Reader.{restriction}
 use Rattle.restriction.specs.Answer.{isTree}
 use Rattle.select.specs.Select.{selectedBy}
 use Rattle.sessions.specs.Seat.{Seat, withCursor, opened}
-use Rattle.messages.specs.Message.{isOpen}
+use Rattle.outcomes.specs.Message.{isOpen}
 
 -- "the lowest free handle"; 0 where "both handles of the seat [are] open"
 abbrev pub freeHandle : Seat → ℕ

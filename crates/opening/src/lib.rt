@@ -23,10 +23,10 @@ fn free_handle(block: &[u32]) -> u32
     requires { ⌜ length (now block) ≡ seatSize ⌝ }
     ensures { λ r. ⌜ r ≡ freeHandle (seatIn (now (block .entry))) ⌝ }
 {
-    if !messages::is_open(block, 1) {
+    if !handles::is_open(block, 1) {
         return 1;
     }
-    if !messages::is_open(block, 2) {
+    if !handles::is_open(block, 2) {
         return 2;
     }
     0
@@ -86,7 +86,7 @@ pub fn open(
     requires { ⌜ (length (now block) ≡ seatSize) × (part (now block) (cursorPlace handle) cursorSize ≡ cursorBlock none) × (isTree (restriction (now tree)) ≡ true) × Noted (now catalogue) rows (now places) ⌝ }
     ensures { λ _. ⌜ now (block .exit) ≡ put (now (block .entry)) (cursorPlace handle) cursorSize (cursorBlock (some (opened (selected (now (tree .entry)) (now (catalogue .entry)))))) ⌝ }
 {
-    let at = messages::cursor_at(handle);
+    let at = handles::cursor_at(handle);
     let end = at + sessions::CURSOR_SIZE;
     fill(&mut block[at..end], tree, catalogue, rows, places);
 }

@@ -21,14 +21,14 @@ use Rattle.sessions.proofs.Tables.{seat-same, seat-other}
 use Rattle.refusals.specs.Refusal.{firstCause}
 use Rattle.refusals.proofs.First.{first-go}
 use Rattle.fetching.specs.Ready.{rowsOf}
-use Rattle.messages.specs.Message.{seatMessage}
-use Rattle.messages.proofs.Bodies.{with-fits}
+use Rattle.outcomes.specs.Message.{seatMessage}
+use Rattle.outcomes.proofs.Bodies.{with-fits}
 use Rattle.keeping.proofs.Keeping.{message-fits}
 use Rattle.opening.specs.Open.{freeHandle, openCauses, openedOn}
-use Rattle.server.specs.Step.{Sources, sourcesOf, Outcome, judging, seatHeld, isConnected, seated, sizing, connectStep, messageStep, openDone, openStep}
-use Rattle.server.proofs.Causes.{judging-numbered}
-use Rattle.server.proofs.Passing.{Passing, selected-fits}
-use Rattle.server.proofs.Seating.{seat-ok}
+use Rattle.steps.specs.Step.{Sources, sourcesOf, Outcome, judging, seatHeld, isConnected, seated, sizing, connectStep, messageStep, openDone, openStep}
+use Rattle.steps.proofs.Causes.{judging-numbered}
+use Rattle.steps.proofs.Passing.{Passing, selected-fits}
+use Rattle.steps.proofs.Seating.{seat-ok}
 use Rattle.promises.specs.Calls.{Call, connecting, opening, messaging, seatOfCall, step, Answer, answerOf}
 
 -- an answer, and the seat afterwards

@@ -28,11 +28,11 @@ use Rattle.requests.specs.Request.{request}
 use Rattle.requests.specs.declared.Request.{Request}
 use Rattle.fetching.specs.Fetch.{sent, fetchReply, fetched}
 use Rattle.fetching.specs.Ready.{rowsOf}
-use Rattle.messages.specs.Message.{msgOf, handleOf, kindOf, kindFrom, served, isOpen, unread, unfit, boundTo, gateCauses, bodyCauses, bodyOf, seatCauses, rowsDone, doneOn, seatMessage}
-use Rattle.messages.proofs.Answering.{gate-numbered}
+use Rattle.outcomes.specs.Message.{msgOf, handleOf, kindOf, kindFrom, served, isOpen, unread, unfit, boundTo, gateCauses, bodyCauses, bodyOf, seatCauses, rowsDone, doneOn, seatMessage}
+use Rattle.outcomes.proofs.Answering.{gate-numbered}
 use Rattle.opening.specs.Open.{freeHandle}
-use Rattle.server.specs.Step.{Sources, sourcesOf, seatHeld, sizing}
-use Rattle.server.proofs.Seating.{seat-ok}
+use Rattle.steps.specs.Step.{Sources, sourcesOf, seatHeld, sizing}
+use Rattle.steps.proofs.Seating.{seat-ok}
 use Rattle.promises.specs.Calls.{Call, connecting, opening, messaging, seatOfCall, step, Answer, answerOf, history, after}
 use Rattle.promises.specs.Told.{Handle, carriedOn, boundOn, afterMessage, accepted, afterCall, cursorTold, cursorBy, heldCursor}
 use Rattle.promises.proofs.Refusals.{accepted-passes, seat-refusal}

@@ -25,9 +25,9 @@ use Rattle.requests.specs.Request.{request}
 use Rattle.rows.specs.Page.{blocks, returned, rowSpans, rowsSpans, pageBytes}
 use Rattle.sessions.specs.Layout.{seats}
 use Rattle.sessions.specs.Seat.{Seat}
-use Rattle.messages.specs.Message.{kindFrom, seatMessage}
-use Rattle.server.specs.Step.{Sources, sourcesOf, seatHeld}
-use Rattle.server.proofs.Passing.{Passing}
+use Rattle.outcomes.specs.Message.{kindFrom, seatMessage}
+use Rattle.steps.specs.Step.{Sources, sourcesOf, seatHeld}
+use Rattle.steps.proofs.Passing.{Passing}
 use Rattle.promises.specs.Calls.{Call, seatOfCall, step, Answer, Event, history, freshTable}
 use Rattle.promises.specs.Case.{caseCalls, caseEvents}
 use Rattle.promises.proofs.Reached.{step-passes, fresh-seat, fresh-passes}

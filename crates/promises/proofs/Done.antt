@@ -14,10 +14,10 @@ use Rattle.spans.specs.Laid.{fourWords}
 use Rattle.sessions.specs.Seat.{Seat, fresh}
 use Rattle.refusals.specs.Refusal.{firstCause}
 use Rattle.fetching.specs.Ready.{rowsOf}
-use Rattle.messages.specs.Message.{msgOf, kindOf, kindFrom, served, stillOpen, seatCauses, seatMessage}
+use Rattle.outcomes.specs.Message.{msgOf, kindOf, kindFrom, served, stillOpen, seatCauses, seatMessage}
 use Rattle.keeping.proofs.Keeping.{message-fits}
-use Rattle.server.specs.Step.{Sources, sourcesOf, judging, seatHeld, seated, sizing, messageStep}
-use Rattle.server.proofs.Seating.{seat-ok}
+use Rattle.steps.specs.Step.{Sources, sourcesOf, judging, seatHeld, seated, sizing, messageStep}
+use Rattle.steps.proofs.Seating.{seat-ok}
 use Rattle.promises.specs.Calls.{connecting, messaging, step, Answer}
 use Rattle.promises.specs.Done.{Done}
 use Rattle.promises.proofs.Refusals.{accepted-passes}

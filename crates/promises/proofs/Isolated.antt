@@ -11,8 +11,8 @@ use Rattle.catalogue.specs.Plain.{Row, catalogue}
 use Rattle.sessions.specs.Layout.{seats}
 use Rattle.sessions.specs.Seat.{Seat}
 use Rattle.refusals.specs.Refusal.{firstCause}
-use Rattle.server.specs.Step.{Sources, sourcesOf, Outcome, seatHeld}
-use Rattle.server.proofs.Passing.{Passing}
+use Rattle.steps.specs.Step.{Sources, sourcesOf, Outcome, seatHeld}
+use Rattle.steps.proofs.Passing.{Passing}
 use Rattle.promises.specs.Calls.{Call, connecting, opening, messaging, seatOfCall, step, Answer, answerOf, Event, history, freshTable}
 use Rattle.promises.specs.Causes.{causesOf, refusalReply}
 use Rattle.promises.specs.Own.{ownCalls, ownEvents}

@@ -12,8 +12,8 @@ use Rattle.words.proofs.Below.{by-test}
 use Rattle.bindings.specs.Bindings.{Bindings}
 use Rattle.bindings.specs.Plain.{bindings}
 use Rattle.sessions.specs.Seat.{Cursor}
-use Rattle.messages.specs.Message.{msgOf, handleOf}
-use Rattle.server.specs.Step.{Sources}
+use Rattle.outcomes.specs.Message.{msgOf, handleOf}
+use Rattle.steps.specs.Step.{Sources}
 use Rattle.promises.specs.Calls.{Call, connecting, opening, messaging, Answer, Event}
 use Rattle.promises.specs.Told.{carriedOn, boundOn, accepted, afterMessage, afterCall, cursorTold}
 use Rattle.promises.specs.Rows.{countIn, pageOn, joinedMessage, joinedCall, rowsTold, firstRows}

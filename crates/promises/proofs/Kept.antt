@@ -9,9 +9,9 @@ use lib.ListN.{length, drop}
 use Rattle.words.specs.Word.{le}
 use Rattle.spans.specs.Laid.{fourWords}
 use Rattle.refusals.specs.Refusal.{statusOf}
-use Rattle.messages.specs.Message.{msgOf}
-use Rattle.server.specs.Step.{Sources, Keeps}
-use Rattle.server.proofs.Once.{Same, keeps-once}
+use Rattle.outcomes.specs.Message.{msgOf}
+use Rattle.steps.specs.Step.{Sources, Keeps}
+use Rattle.steps.proofs.Once.{Same, keeps-once}
 use Rattle.promises.specs.Calls.{Call, messaging, step}
 use Rattle.promises.specs.Causes.{refusalReply}
 use Rattle.promises.proofs.Unchanged.{refused-leaves}

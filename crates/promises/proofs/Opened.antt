@@ -18,11 +18,11 @@ use Rattle.select.proofs.Selection.{selection-has, selection-rises}
 use Rattle.sessions.specs.Seat.{Cursor, Seat, cursorIn, opened}
 use Rattle.refusals.specs.Refusal.{firstCause}
 use Rattle.refusals.proofs.First.{first-both}
-use Rattle.messages.specs.Message.{isOpen}
+use Rattle.outcomes.specs.Message.{isOpen}
 use Rattle.opening.specs.Open.{freeHandle, openCauses}
-use Rattle.server.specs.Step.{Sources, sourcesOf, Outcome, rowsHold, judging, seatHeld, openDone, openStep}
-use Rattle.server.proofs.Causes.{judging-numbered}
-use Rattle.server.proofs.Opening.{closed}
+use Rattle.steps.specs.Step.{Sources, sourcesOf, Outcome, rowsHold, judging, seatHeld, openDone, openStep}
+use Rattle.steps.proofs.Causes.{judging-numbered}
+use Rattle.steps.proofs.Opening.{closed}
 use Rattle.promises.specs.Calls.{opening, step, Answer, answerOf}
 use Rattle.promises.specs.Told.{afterCall, cursorBy, heldCursor}
 use Rattle.promises.specs.Opens.{Opens}

@@ -15,8 +15,8 @@ use Rattle.sessions.specs.Layout.{seats, seatSize, seatAt, tableSize, part, blo
 use Rattle.sessions.specs.Seat.{seatBlock, seatOf}
 use Rattle.sessions.specs.Well.{seatWell, tableWell, seatBelow, tableBelow}
 use Rattle.sessions.proofs.Seats.{seat-block}
-use Rattle.server.specs.Step.{Sources, sourcesOf, rowsHold, seatHeld}
-use Rattle.server.proofs.Passing.{Passing, connect-passes, open-passes, message-passes}
+use Rattle.steps.specs.Step.{Sources, sourcesOf, rowsHold, seatHeld}
+use Rattle.steps.proofs.Passing.{Passing, connect-passes, open-passes, message-passes}
 use Rattle.promises.specs.Calls.{Call, connecting, opening, messaging, step, after, freshTable}
 use Rattle.promises.proofs.Refusals.{accepted-passes}
 use Rattle.promises.proofs.Unchanged.{refused-leaves}

@@ -16,10 +16,10 @@ use Rattle.requests.specs.declared.Request.{Request}
 use Rattle.refusals.specs.Refusal.{firstCause}
 use Rattle.refusals.proofs.First.{Numbered, first-stop, first-go, first-both}
 use Rattle.fetching.specs.Ready.{rowsOf}
-use Rattle.messages.specs.Message.{kindOf, served, msgOf, handleOf, bodyCauses, seatCauses, rowsCauses, rowsDone, doneOn, doneBy, seatMessage}
+use Rattle.outcomes.specs.Message.{kindOf, served, msgOf, handleOf, bodyCauses, seatCauses, rowsCauses, rowsDone, doneOn, doneBy, seatMessage}
 use Rattle.opening.specs.Open.{openCauses}
-use Rattle.server.specs.Step.{Sources, judging, seatHeld, isConnected, sizing, connectCauses, connectStep, messageStep, openDone, openStep}
-use Rattle.server.proofs.Causes.{Passes, passes, judging-numbered}
+use Rattle.steps.specs.Step.{Sources, judging, seatHeld, isConnected, sizing, connectCauses, connectStep, messageStep, openDone, openStep}
+use Rattle.steps.proofs.Causes.{Passes, passes, judging-numbered}
 use Rattle.promises.specs.Calls.{Call, connecting, opening, messaging, seatOfCall, step}
 use Rattle.promises.specs.Causes.{causesOf, Given, NoneApplies, Risen}
 use Rattle.promises.proofs.First.{exact, exact-none, risen-numbered}

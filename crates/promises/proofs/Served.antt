@@ -28,7 +28,7 @@ use Rattle.rows.proofs.Head.{head-reads}
 use Rattle.rows.proofs.Reply.{page-is}
 use Rattle.fetching.specs.Fetch.{remaining, unbound, sent, rowsSent, thenLeft, fetchReply}
 use Rattle.fetching.proofs.Sending.{sent-left, sound-inside}
-use Rattle.messages.specs.Message.{handleOf, isOpen, unasked, rowsCauses, bodyCauses}
+use Rattle.outcomes.specs.Message.{handleOf, isOpen, unasked, rowsCauses, bodyCauses}
 
 -- the cursors of a seat that fits
 pub cursor-ok : (s : Seat) (handle : ℕ) → SeatOk (some s) → CursorOk (cursorIn s handle)

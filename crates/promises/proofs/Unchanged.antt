@@ -12,10 +12,10 @@ use Rattle.sessions.specs.Seat.{Seat}
 use Rattle.refusals.specs.Refusal.{firstCause}
 use Rattle.refusals.proofs.First.{first-under}
 use Rattle.fetching.specs.Ready.{rowsOf}
-use Rattle.messages.specs.Message.{seatCauses, seatMessage}
+use Rattle.outcomes.specs.Message.{seatCauses, seatMessage}
 use Rattle.opening.specs.Open.{openCauses}
-use Rattle.server.specs.Step.{Sources, judging, seatHeld, sizing, connectCauses, connectStep, messageStep, openDone, openStep}
-use Rattle.server.proofs.Unchanged.{connect-unchanged, open-unchanged, message-unchanged}
+use Rattle.steps.specs.Step.{Sources, judging, seatHeld, sizing, connectCauses, connectStep, messageStep, openDone, openStep}
+use Rattle.steps.proofs.Unchanged.{connect-unchanged, open-unchanged, message-unchanged}
 use Rattle.promises.specs.Calls.{Call, connecting, opening, messaging, step}
 use Rattle.promises.specs.Causes.{refusalReply, Refused}
 use Rattle.promises.proofs.First.{first-over}

@@ -4,7 +4,7 @@ use mathlib.Core.List.{List, [], _∷_}
 use Prim.Native.Nat.{ℕ}
 use lib.ListN.{replicate}
 use Rattle.sessions.specs.Layout.{tableSize}
-use Rattle.server.specs.Step.{Sources, Outcome, connectStep, openStep, messageStep}
+use Rattle.steps.specs.Step.{Sources, Outcome, connectStep, openStep, messageStep}
 
 -- a call of the server with its arguments; of a message's reply buffer its length
 pub data Call : Type 0 where

@@ -9,9 +9,9 @@ use Rattle.words.specs.Below.{pick}
 use Rattle.spans.specs.Laid.{fourWords}
 use Rattle.refusals.specs.Refusal.{statusOf}
 use Rattle.fetching.specs.Ready.{rowsOf}
-use Rattle.messages.specs.Message.{msgOf, seatCauses}
+use Rattle.outcomes.specs.Message.{msgOf, seatCauses}
 use Rattle.opening.specs.Open.{openCauses}
-use Rattle.server.specs.Step.{Sources, Outcome, judging, seatHeld, sizing, connectCauses}
+use Rattle.steps.specs.Step.{Sources, Outcome, judging, seatHeld, sizing, connectCauses}
 use Rattle.promises.specs.Calls.{Call, connecting, opening, messaging}
 
 -- every cause that the call judges, each its number and whether it applies

@@ -6,7 +6,7 @@ use Prim.Native.Nat.{ℕ}
 use Rattle.words.specs.Word.{le}
 use Rattle.spans.specs.Laid.{fourWords}
 use Rattle.sessions.specs.Seat.{Seat}
-use Rattle.messages.specs.Message.{msgOf, stillOpen}
+use Rattle.outcomes.specs.Message.{msgOf, stillOpen}
 
 -- an accepted message that is no request for rows, by the seat afterwards and its reply: "Disconnect .. closes both cursors, leaves the
 -- seat unconnected and writes nothing. Free cursor['s] .. reply is _msg, three zero words and the seat's count of cursors still open";

@@ -20,7 +20,7 @@ use Rattle.rows.specs.Page.{Fits}
 use Rattle.rows.proofs.Vectors.{caseColumns}
 use Rattle.sessions.specs.Seat.{Cursor, fresh}
 use Rattle.fetching.specs.Fetch.{fetchCauses, sent}
-use Rattle.messages.specs.Message.{unasked}
+use Rattle.outcomes.specs.Message.{unasked}
 use Rattle.opening.specs.Open.{openCauses}
 
 -- a row with a label, or without

@@ -14,7 +14,7 @@ use Rattle.restriction.specs.Reader.{restriction}
 use Rattle.restriction.specs.Rising.{Rises}
 use Rattle.rows.specs.Reads.{rowIn}
 use Rattle.sessions.specs.Seat.{opened}
-use Rattle.server.specs.Step.{Outcome}
+use Rattle.steps.specs.Step.{Outcome}
 use Rattle.promises.specs.Told.{heldCursor}
 
 pub record Opens (s t : List ℕ) (seat : ℕ) (bytes : List ℕ) (o : Outcome) : Type 0 where

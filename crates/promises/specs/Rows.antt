@@ -19,8 +19,8 @@ use Rattle.requests.specs.declared.Request.{Request}
 use Rattle.rows.specs.Page.{Fits, pageSpans, pageBytes, endOfRows}
 use Rattle.rows.specs.Reads.{rowIn, rowPlace, blockPlace, Reads, HeadReads}
 use Rattle.fetching.specs.Fetch.{numbered, remaining}
-use Rattle.messages.specs.Message.{msgOf, handleOf}
-use Rattle.server.specs.Step.{Sources}
+use Rattle.outcomes.specs.Message.{msgOf, handleOf}
+use Rattle.steps.specs.Step.{Sources}
 use Rattle.promises.specs.Calls.{Call, connecting, opening, messaging, Answer, Event}
 use Rattle.promises.specs.Told.{accepted, afterCall, cursorTold, heldCursor}
 

@@ -14,8 +14,8 @@ use Rattle.bindings.specs.Plain.{bindings}
 use Rattle.restriction.specs.Reader.{restriction}
 use Rattle.select.specs.Select.{selectedBy}
 use Rattle.sessions.specs.Seat.{Cursor, Seat, cursorIn, opened, rebound, moved}
-use Rattle.messages.specs.Message.{msgOf, handleOf}
-use Rattle.server.specs.Step.{Sources, seatHeld}
+use Rattle.outcomes.specs.Message.{msgOf, handleOf}
+use Rattle.steps.specs.Step.{Sources, seatHeld}
 use Rattle.promises.specs.Calls.{Call, connecting, opening, messaging, Answer, Event}
 
 -- "handles 1 and 2"

@@ -1,55 +1,13 @@
 // The server: connecting, opening a query, and messages, over a lent table of sessions and a lent catalogue.
 ghost use mathlib.Core.List.{[]};
 ghost use lib.ListN.{length};
-ghost use Prim.Native.Nat.{_+_, _<_};
-ghost use Rattle.server.specs.Step.{sourcesOf, connectStep, openStep, messageStep, Keeps};
-ghost use Rattle.server.specs.Judgement.{Judgement};
-use messages::Answered;
+ghost use Rattle.steps.specs.Step.{sourcesOf, connectStep, openStep, messageStep, Keeps};
+use outcomes::Answered;
 
 // A seat and a cursor's handle: types of their own, as a row's number is (`rows::Row`), so that none can stand for another.
 pub struct Seat(pub u32);
 
 pub struct Handle(pub u32);
-
-// What is judged of every call: the refusal, and the catalogue's row count where there is none.
-struct Judged {
-    refusal: u32,
-    rows: u32,
-}
-
-// Refusals 1 to 3. The place of each row is noted.
-fn judge(table: &[u32], bytes: &[u8], seat: u32, places: &mut [u32; 1024]) -> Judged
-    ensures { λ r. ⌜ Judgement (now (table .entry)) (now (bytes .entry)) seat r (now (places .entry)) (now (places .exit)) ⌝ }
-{
-    if 7 < seat {
-        return Judged {
-            refusal: 1,
-            rows: 0,
-        };
-    }
-    if !sessions::well(table) {
-        return Judged {
-            refusal: 2,
-            rows: 0,
-        };
-    }
-    let checked = checking::check(bytes, places);
-    let refusal = checked.refusal;
-    let rows = checked.rows;
-    if refusal != 0 {
-        return Judged {
-            refusal: 3,
-            rows: 0,
-        };
-    }
-    if !sessions::below(table, rows) {
-        return Judged {
-            refusal: 3,
-            rows: 0,
-        };
-    }
-    Judged { refusal: 0, rows }
-}
 
 // Connects a seat.
 pub fn connect(table: &mut [u32], catalogue: &[u8], seat: Seat, version: u32) -> u32
@@ -57,7 +15,7 @@ pub fn connect(table: &mut [u32], catalogue: &[u8], seat: Seat, version: u32) ->
 {
     let k = seat.0;
     let mut places = [0u32; 1024];
-    let judged = judge(table, catalogue, k, &mut places);
+    let judged = judging::judge(table, catalogue, k, &mut places);
     let refusal = judged.refusal;
     if refusal != 0 {
         return refusal;
@@ -83,7 +41,7 @@ pub fn open(table: &mut [u32], catalogue: &[u8], seat: Seat, tree: &[u8]) -> Ope
 {
     let k = seat.0;
     let mut places = [0u32; 1024];
-    let judged = judge(table, catalogue, k, &mut places);
+    let judged = judging::judge(table, catalogue, k, &mut places);
     let refusal = judged.refusal;
     let rows = judged.rows;
     if refusal != 0 {
@@ -122,7 +80,7 @@ pub fn message(
 {
     let k = seat.0;
     let mut places = [0u32; 1024];
-    let judged = judge(table, catalogue, k, &mut places);
+    let judged = judging::judge(table, catalogue, k, &mut places);
     let refusal = judged.refusal;
     if refusal != 0 {
         return Answered { refusal, count: 0 };

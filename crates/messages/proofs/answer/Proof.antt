@@ -2,9 +2,9 @@
 use borrow.Author.Needs.{needs}
 use Rattle.messages.proofs.answer.Statement.{statement}
 use Rattle.messages.proofs.answer.Tie as tie
-use Rattle.messages.proofs.Answering.{block-is, refused-answers, gate-refused}
-use Rattle.messages.proofs.Gating.{gate-served, gate-connected, gate-small}
-use Rattle.messages.specs.Message.{kindOf}
+use Rattle.outcomes.proofs.Answering.{block-is, refused-answers, gate-refused}
+use Rattle.outcomes.proofs.Gating.{gate-served, gate-connected, gate-small}
+use Rattle.outcomes.specs.Message.{kindOf}
 use Rattle.fetching.specs.Ready.{rowsOf}
 use Rattle.sessions.specs.Seat.{seatOf}
 use Rattle.catalogue.specs.Plain.{catalogue}

@@ -8,9 +8,9 @@ use native.Mathlib.Omega.{arith}
 use borrow.Author.Tests.{not-true, not-false}
 use Rattle.bindings.proofs.Judged.{told-fit}
 use Rattle.sessions.specs.Seat.{seatIn, cursorIn}
-use Rattle.messages.specs.Message.{isOpen}
-use Rattle.messages.proofs.Answering.{block-is, refused-answers, body-refused}
-use Rattle.messages.proofs.Binding.{not-read, not-opened, not-fit, bound-answers, told-none, told-some, rebound-is}
+use Rattle.outcomes.specs.Message.{isOpen}
+use Rattle.outcomes.proofs.Answering.{block-is, refused-answers, body-refused}
+use Rattle.outcomes.proofs.Binding.{not-read, not-opened, not-fit, bound-answers, told-none, told-some, rebound-is}
 
 slice-aggregate-read : tie.Need-slice-aggregate-read
 slice-aggregate-read c = search needs

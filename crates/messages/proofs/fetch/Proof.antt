@@ -2,9 +2,9 @@
 use borrow.Author.Needs.{needs}
 use Rattle.messages.proofs.fetch.Statement.{statement}
 use Rattle.messages.proofs.fetch.Tie as tie
-use Rattle.messages.proofs.Rows.{not-asked, rows-closed, found-inside, ready-at, refusal-small, refused-at, answered-at}
-use Rattle.messages.proofs.Answering.{block-is, refused-answers, body-refused}
-use Rattle.messages.specs.Message.{isOpen}
+use Rattle.outcomes.proofs.Rows.{not-asked, rows-closed, found-inside, ready-at, refusal-small, refused-at, answered-at}
+use Rattle.outcomes.proofs.Answering.{block-is, refused-answers, body-refused}
+use Rattle.outcomes.specs.Message.{isOpen}
 use Rattle.fetching.specs.Ready.{rowsOf}
 use Rattle.requests.proofs.Ranges.{request-handle, asked-is, malformed-is}
 use Rattle.requests.specs.Request.{request}

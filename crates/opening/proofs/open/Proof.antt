@@ -8,7 +8,7 @@ use mathlib.Core.List.{List}
 use native.Mathlib.Omega.{arith}
 use Rattle.sessions.specs.Layout.{cursorSize, part, put}
 use Rattle.sessions.proofs.Judging.{part-is}
-use Rattle.messages.proofs.Handles.{place-inside, put-is}
+use Rattle.outcomes.proofs.Handles.{place-inside, put-is}
 
 cursor-at-requires : tie.Need-cursor-at-requires
 cursor-at-requires c κs = search needs

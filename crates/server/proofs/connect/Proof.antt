@@ -9,10 +9,10 @@ use mathlib.Core.List.{List, []}
 use Rattle.sessions.specs.Layout.{seatSize}
 use Rattle.sessions.proofs.Judging.{part-is}
 use Rattle.sessions.proofs.Tables.{table-length}
-use Rattle.server.specs.Step.{sourcesOf, Keeps, connectStep}
-use Rattle.server.proofs.Causes.{passes}
-use Rattle.server.proofs.Seating.{block-none, is-connected, not-connected, seated-is}
-use Rattle.server.proofs.Connecting.{connect-judged, connect-taken, connect-done}
+use Rattle.steps.specs.Step.{sourcesOf, Keeps, connectStep}
+use Rattle.steps.proofs.Causes.{passes}
+use Rattle.steps.proofs.Seating.{block-none, is-connected, not-connected, seated-is}
+use Rattle.steps.proofs.Connecting.{connect-judged, connect-taken, connect-done}
 use mathlib.Core.Option.{some}
 use Rattle.sessions.specs.Seat.{fresh}
 

@@ -2,13 +2,13 @@
 use borrow.Author.Needs.{needs}
 use Rattle.server.proofs.message.Statement.{statement}
 use Rattle.server.proofs.message.Tie as tie
-use Rattle.server.proofs.Sourcing.{noted-length}
+use Rattle.steps.proofs.Sourcing.{noted-length}
 use lib.ListN.{length-replicate}
-use Rattle.server.proofs.Sourcing.{sourced}
-use Rattle.server.proofs.Opening.{places-noted}
-use Rattle.server.proofs.Messaging.{message-judged, room-refused, short-refused, long-refused, message-answered}
-use Rattle.server.proofs.Causes.{passes}
-use Rattle.server.specs.Step.{sourcesOf}
+use Rattle.steps.proofs.Sourcing.{sourced}
+use Rattle.steps.proofs.Opening.{places-noted}
+use Rattle.steps.proofs.Messaging.{message-judged, room-refused, short-refused, long-refused, message-answered}
+use Rattle.steps.proofs.Causes.{passes}
+use Rattle.steps.specs.Step.{sourcesOf}
 use Rattle.sessions.proofs.Tables.{table-length, table-seat, block-size}
 use Rattle.sessions.proofs.Judging.{part-is}
 use Rattle.sessions.specs.Well.{seatWell}

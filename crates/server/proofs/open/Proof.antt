@@ -9,16 +9,17 @@ use lib.ListN.{length, length-replicate}
 use Rattle.sessions.specs.Layout.{seatSize, cursorSize, cursorPlace, part, put}
 use Rattle.sessions.proofs.Judging.{part-is}
 use Rattle.sessions.proofs.Tables.{table-length, block-size}
-use Rattle.server.specs.Step.{sourcesOf, seatHeld}
-use Rattle.server.proofs.Causes.{passes}
-use Rattle.server.proofs.Opening.{open-judged, open-refused, open-done, places-noted, open-seat, part-closed, part-opened}
+use Rattle.steps.specs.Step.{sourcesOf, seatHeld}
+use Rattle.steps.proofs.Causes.{passes}
+use Rattle.steps.proofs.Opening.{open-judged, open-refused, open-done, places-noted, open-seat, part-closed, part-opened}
 use mathlib.Core.Option.{some}
 use mathlib.Core.List.{List}
 use Rattle.sessions.specs.Seat.{opened, cursorBlock}
 use Rattle.select.specs.Select.{selected}
 use Rattle.opening.specs.Open.{openedOn}
 use Rattle.opening.specs.Answer.{handleFor}
-use Rattle.server.proofs.Seating.{seated-is}
+use Rattle.opening.proofs.OpenLaws.{open-tree}
+use Rattle.steps.proofs.Seating.{seated-is}
 
 judge-requires : tie.Need-judge-requires
 judge-requires c κs = search needs
@@ -103,6 +104,7 @@ open-requires c κs =
       ap length (part-is t (seatSize * a .seat .0) seatSize) ∙ block-size t (table-length t (p .table-in)) (a .seat .0) (p .seat-in),
       ap (λ (b : List ℕ). part b (cursorPlace (c .before .before .before .judge2 .result .handle)) cursorSize) (part-is t (seatSize * a .seat .0) seatSize)
           ∙ part-closed t (p .table-in) (a .seat .0) (p .seat-in) (s .0) (s .1) _ h (λ z. s .2 (sym h ∙ z)),
+      open-tree (seatHeld t (a .seat .0)) (a .tree .now) f,
       places-noted (a .catalogue .now) t _ _ (a .seat .0) _ (c .before .before .before .before .before .before .before .judge .ensures) (c .before .before .before .before .before .before .if1 .left) (p .rows-in) (omega (arith, length-replicate {A = ℕ} 1024 0)),
     )
 

@@ -1,0 +1,7 @@
+// What a message does to its seat: the definitions, and the laws of each kind.
+
+// The answer to a message: the refusal number, else 0, and the count of reply bytes.
+pub struct Answered {
+    pub refusal: u32,
+    pub count: u32,
+}
