@@ -176,8 +176,8 @@ pub fn well_formed(bytes: &[u8]) -> bool
     if BYTES_MOST < bytes.len() {
         return false;
     }
-    let NodeRead::Node(used, _) = node(bytes, 0, LEVELS_MOST, NODES_MOST) else {
-        return false;
-    };
-    used == bytes.len()
+    match node(bytes, 0, LEVELS_MOST, NODES_MOST) {
+        NodeRead::Node(used, _) => used == bytes.len(),
+        NodeRead::NoNode => false,
+    }
 }
