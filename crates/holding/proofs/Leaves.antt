@@ -23,7 +23,7 @@ use Rattle.leaves.specs.declared.LeafAt.the-variants.{LeafTo, NoLeaf}
 use Rattle.leaves.proofs.LeafLaws.{pick-inv, no-leaf}
 use Rattle.leaves.proofs.LeafWords.{sizeIn, endIn, localeIn, relation-words, content-words}
 use Rattle.holding.specs.Told.{told, countAt, unitsEnd, localeAt, relationTold, contentTold, leafTold}
-use Rattle.holding.specs.Inside.{TextInside, RowInside}
+use Rattle.matching.specs.Inside.{TextInside, RowInside}
 use Rattle.holding.specs.There.{LeafThere}
 
 -- a word of what is left from a place on

@@ -4,18 +4,14 @@ ghost use mathlib.Core.Path.{_≡_};
 ghost use mathlib.Core.Bool.{true};
 ghost use Prim.Native.Nat.{_+_, _^_, _≤_, _<_};
 ghost use lib.ListN.{length};
-ghost use Rattle.words.specs.Word.{halves};
-ghost use Rattle.catalogue.specs.Places.{textOf, rowOf};
-ghost use Rattle.leaves.specs.Property.{ofNumbers, ofTexts};
-ghost use Rattle.leaves.specs.Holds.{relationHolds, phraseHolds};
-ghost use Rattle.holding.specs.Inside.{TextInside, RowInside};
+ghost use Rattle.catalogue.specs.Places.{rowOf};
+ghost use Rattle.matching.specs.Inside.{RowInside};
 ghost use Rattle.restriction.specs.Holds.{heldBy};
 ghost use Rattle.restriction.specs.Reader.{restriction};
 ghost use Rattle.restriction.specs.Answer.{isTree};
 ghost use Rattle.holding.specs.Told.{told, turned, withChild, localeAt, relationTold, contentTold, leafTold};
 ghost use Rattle.holding.specs.There.{LeafThere, NodeThere, NodeTold, ListThere, ListTold};
 use catalogue::Fields;
-use catalogue::Text;
 
 const LEVELS_MOST: u32 = 8;
 
@@ -25,13 +21,6 @@ const AND: u32 = 1;
 const NOT: u32 = 3;
 
 const CONTENT: u32 = 4;
-
-// The properties that the code tells apart.
-const KEY: u32 = 2;
-
-const LANGUAGE: u32 = 3;
-
-const LABEL: u32 = 5;
 
 // The bytes of a node before its child, and before a list of children.
 const HEAD_SIZE: usize = 8;
@@ -73,52 +62,6 @@ fn with_child(kind: u32, before: bool, child: bool) -> bool
     child
 }
 
-// Whether the row's value has the relation to the tree's.
-fn relation_holds(relop: u32, mine: u64, yours: u64) -> bool
-    ensures { λ r. ⌜ r ≡ relationHolds relop mine yours ⌝ }
-{
-    match relop {
-        0 => mine < yours,
-        1 => mine <= yours,
-        2 => yours < mine,
-        3 => yours <= mine,
-        4 => mine == yours,
-        _ => mine != yours,
-    }
-}
-
-// The row's number that a property names.
-fn number_of(property: u32, row: Fields) -> u64
-    ensures { λ r. ⌜ r ≡ ofNumbers property (row .key) (row .language) (row .default) ⌝ }
-{
-    match property {
-        KEY => row.key,
-        LANGUAGE => row.language,
-        _ => row.default,
-    }
-}
-
-// The row's text that a property names.
-fn text_of(property: u32, row: Fields) -> Text
-    ensures { λ r. ⌜ r ≡ ofTexts property (row .label) (row .note) ⌝ }
-{
-    if property == LABEL {
-        return row.label;
-    }
-    row.note
-}
-
-// Whether a phrase occurs in a text.
-fn phrase_holds(phrase: &[u8], method: u32, catalogue: &[u8], text: Text) -> bool
-    requires { ⌜ TextInside (now catalogue) text ⌝ }
-    ensures { λ r. ⌜ r ≡ phraseHolds method (halves (now (phrase .entry))) (textOf (now (catalogue .entry)) text) ⌝ }
-{
-    if text.size == 0 {
-        return false;
-    }
-    phrase::occurs(catalogue::units(catalogue, text), phrase, method)
-}
-
 // The property leaf at a place.
 fn relation_told(s: &[u8], at: usize, row: Fields) -> usize
     requires { ⌜ at + 44 ≤ length (now s) ⌝ }
@@ -127,8 +70,8 @@ fn relation_told(s: &[u8], at: usize, row: Fields) -> usize
     let relop = words::word(s, at + 8);
     let property = words::word(s, at + 32);
     let value = words::word(s, at + 40) as u64;
-    let mine = number_of(property, row);
-    told(relation_holds(relop, mine, value), at + 44)
+    let mine = matching::number_of(property, row);
+    told(matching::relation_holds(relop, mine, value), at + 44)
 }
 
 // The content leaf at a place.
@@ -143,8 +86,8 @@ fn content_told(s: &[u8], at: usize, catalogue: &[u8], row: Fields) -> usize
     let end = start + 2 * count;
     let locale = end + leaves::padding(end);
     let method = words::word(s, locale + 4);
-    let text = text_of(property, row);
-    let holds = phrase_holds(&s[start..end], method, catalogue, text);
+    let text = matching::text_of(property, row);
+    let holds = matching::phrase_holds(&s[start..end], method, catalogue, text);
     told(holds, locale + 8)
 }
 

@@ -1,6 +1,6 @@
 -- Laws of selecting: a row at a place, the rows that are left, and the whole. Assumes nothing.
 use mathlib.Core.Path.{_≡_, refl, sym, ap, _∙_}
-use mathlib.Core.Bool.{Bool, true, false}
+use mathlib.Core.Bool.{Bool, true}
 use mathlib.Core.List.{List, [], _∷_, map}
 use mathlib.Core.Option.{Option, none, some}
 use Prim.Native.Nat.{ℕ, _+_, _≤_, _<_}
@@ -24,7 +24,7 @@ use Rattle.catalogue.specs.declared.Checked.{Checked}
 use Rattle.catalogue.specs.declared.RowAt.the-variants.{RowTo, NoRow}
 use Rattle.catalogue.proofs.RowLaws.{row-read}
 use Rattle.catalogue.proofs.Agree.{accepted, catalogue-agrees, rows-counted, row-stands}
-use Rattle.holding.specs.Inside.{RowInside}
+use Rattle.matching.specs.Inside.{RowInside}
 use Rattle.restriction.specs.Tree.{Tree}
 use Rattle.restriction.specs.Holds.{heldBy}
 use Rattle.restriction.specs.Reader.{restriction}

@@ -1,6 +1,6 @@
 -- The rows that a tree selects: their numbers, counted from 0 in the catalogue's order (01, "What the base serves": "row numbers of each
 -- selection"; "Restriction trees").
-use mathlib.Core.Bool.{Bool, false}
+use mathlib.Core.Bool.{Bool}
 use mathlib.Core.List.{List, [], _∷_, _++_}
 use mathlib.Core.Option.{Option, none, some}
 use mathlib.Core.Path.{_≡_}

@@ -2,11 +2,6 @@
 use borrow.Author.Needs.{needs}
 use Rattle.holding.proofs.content_told.Statement.{statement}
 use Rattle.holding.proofs.content_told.Tie as tie
-use Rattle.holding.proofs.phrase_holds.Reads as phrase-holds-reads
-use Rattle.holding.proofs.text_of.Reads as text-of-reads
-use Rattle.holding.proofs.told.Reads as told-reads
-use Rattle.leaves.proofs.padding.Reads as padding-reads
-use Rattle.words.proofs.word.Reads as word-reads
 use mathlib.Core.Path.{_∙_}
 use native.Mathlib.Omega.{arith}
 use Rattle.holding.proofs.Leaves.{text-inside, locale-counted, content-counted}

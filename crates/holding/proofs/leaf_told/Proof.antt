@@ -1,8 +1,6 @@
 -- A leaf that is read has the words of its kind. Assumes nothing.
 use Rattle.holding.proofs.leaf_told.Statement.{statement}
 use Rattle.holding.proofs.leaf_told.Tie as tie
-use Rattle.holding.proofs.content_told.Reads as content-told-reads
-use Rattle.holding.proofs.relation_told.Reads as relation-told-reads
 use mathlib.Core.Path.{_∙_}
 use Rattle.holding.proofs.Leaves.{relation-inside, relation-is, content-inside, content-is}
 

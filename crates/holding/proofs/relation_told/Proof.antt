@@ -2,10 +2,6 @@
 use borrow.Author.Needs.{needs}
 use Rattle.holding.proofs.relation_told.Statement.{statement}
 use Rattle.holding.proofs.relation_told.Tie as tie
-use Rattle.holding.proofs.number_of.Reads as number-of-reads
-use Rattle.holding.proofs.relation_holds.Reads as relation-holds-reads
-use Rattle.holding.proofs.told.Reads as told-reads
-use Rattle.words.proofs.word.Reads as word-reads
 
 add-word : tie.Need-add-word
 add-word c = search needs

@@ -2,7 +2,6 @@
 use borrow.Author.Needs.{needs}
 use Rattle.holding.proofs.with_child.Statement.{statement}
 use Rattle.holding.proofs.with_child.Tie as tie
-use Rattle.leaves.proofs.both.Reads as both-reads
 use borrow.Author.Tests.{eq-eqb, ne-eqb}
 
 both-requires : tie.Need-both-requires

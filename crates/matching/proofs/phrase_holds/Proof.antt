@@ -1,9 +1,7 @@
 -- An absent text holds no phrase; else the search is called on the text's units. Assumes nothing.
 use borrow.Author.Needs.{needs}
-use Rattle.holding.proofs.phrase_holds.Statement.{statement}
-use Rattle.holding.proofs.phrase_holds.Tie as tie
-use Rattle.catalogue.proofs.units.Reads as units-reads
-use Rattle.phrase.proofs.occurs.Reads as occurs-reads
+use Rattle.matching.proofs.phrase_holds.Statement.{statement}
+use Rattle.matching.proofs.phrase_holds.Tie as tie
 use borrow.Author.Tests.{eq-eqb, ne-eqb}
 
 returns : tie.Need-returns

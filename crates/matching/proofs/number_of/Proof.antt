@@ -1,6 +1,6 @@
 -- Each arm is the number that its property names. Assumes nothing.
-use Rattle.holding.proofs.number_of.Statement.{statement}
-use Rattle.holding.proofs.number_of.Tie as tie
+use Rattle.matching.proofs.number_of.Statement.{statement}
+use Rattle.matching.proofs.number_of.Tie as tie
 use borrow.Author.Tests.{ne-eqb}
 
 returns : tie.Need-returns

@@ -1,6 +1,6 @@
 -- Each arm is the comparison that its number names. Assumes nothing.
-use Rattle.holding.proofs.relation_holds.Statement.{statement}
-use Rattle.holding.proofs.relation_holds.Tie as tie
+use Rattle.matching.proofs.relation_holds.Statement.{statement}
+use Rattle.matching.proofs.relation_holds.Tie as tie
 use borrow.Author.Tests.{ne-eqb}
 
 returns : tie.Need-returns

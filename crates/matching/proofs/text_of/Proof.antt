@@ -1,6 +1,6 @@
 -- The test of the property settles the choice. Assumes nothing.
-use Rattle.holding.proofs.text_of.Statement.{statement}
-use Rattle.holding.proofs.text_of.Tie as tie
+use Rattle.matching.proofs.text_of.Statement.{statement}
+use Rattle.matching.proofs.text_of.Tie as tie
 use borrow.Author.Tests.{eq-eqb, ne-eqb}
 
 returns : tie.Need-returns
