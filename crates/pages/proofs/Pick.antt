@@ -15,9 +15,9 @@ use Rattle.spans.specs.Each.{Each}
 use Rattle.spans.specs.Laid.{Laid}
 use Rattle.cells.specs.Field.{text, fieldOf}
 use Rattle.cells.specs.Cell.{blockSpan, blockRoom, columnSpans}
-use Rattle.rows.specs.Page.{blocks, allBlocks, rowSpans, rowsSpans}
-use Rattle.rows.specs.Reads.{rowIn, rowPlace, blockPlace}
-use Rattle.rows.proofs.Spans.{blockAt, cellAt, statusAt, lengthAt, cellSpans, OfCells}
+use Rattle.rows.specs.Rows.{blocks, allBlocks, rowSpans, rowsSpans}
+use Rattle.pages.specs.Reads.{rowIn, rowPlace, blockPlace}
+use Rattle.pages.proofs.Spans.{blockAt, cellAt, statusAt, lengthAt, cellSpans, OfCells}
 
 module _ (P : Laid → Type 0) where
   pub each-left : (s t : List Laid) → Each P (s ++ t) → Each P s

@@ -12,7 +12,8 @@ use Rattle.catalogue.proofs.Vectors.{caseRows}
 use Rattle.columns.specs.declared.Column.{Column}
 use Rattle.spans.specs.Laid.{lay, lays}
 use Rattle.cells.specs.Cell.{columnSpans}
-use Rattle.rows.specs.Page.{blocks, allBlocks, Fits, returned, rowSpans, rowsSpans, page, statusFor}
+use Rattle.rows.specs.Rows.{blocks, allBlocks, Fits, returned, rowSpans, rowsSpans}
+use Rattle.pages.specs.Page.{page, statusFor}
 
 -- "One column, property 5, type 0x000C at 0, status at 16, length at 20, width 24"
 abbrev pub caseColumns : List Column

@@ -23,10 +23,10 @@ use Rattle.spans.proofs.Little.{le-length}
 use Rattle.cells.specs.Field.{text, fieldOf}
 use Rattle.cells.specs.Cell.{lengthOf, blockRoom, columnSpans}
 use Rattle.cells.proofs.Units.{block-length}
-use Rattle.rows.specs.Page.{blocks, rowSpans, rowsSpans}
+use Rattle.rows.specs.Rows.{blocks, rowSpans, rowsSpans}
 use Rattle.rows.specs.Ready.{needed}
-use Rattle.rows.proofs.Parts.{Good, First, first, tests, valueIn, statusIn, lengthIn}
-use Rattle.rows.proofs.Spans.{blockAt, cellAt, statusAt, lengthAt, cell-length, room-is, each-column, pairs-column}
+use Rattle.pages.proofs.Parts.{Good, First, first, tests, valueIn, statusIn, lengthIn}
+use Rattle.pages.proofs.Spans.{blockAt, cellAt, statusAt, lengthAt, cell-length, room-is, each-column, pairs-column}
 
 -- a span of a row stands for one of a column
 pub record Is (row : ℕ) (h : Span) (a : Laid) : Type 0 where

@@ -1,6 +1,6 @@
 -- Two cases. Assumes nothing.
-use Rattle.rows.proofs.status_for.Statement.{statement}
-use Rattle.rows.proofs.status_for.Tie as tie
+use Rattle.pages.proofs.status_for.Statement.{statement}
+use Rattle.pages.proofs.status_for.Tie as tie
 use borrow.Author.Tests.{eq-eqb, ne-eqb}
 
 returns : tie.Need-returns

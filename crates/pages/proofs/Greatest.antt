@@ -13,9 +13,9 @@ use Rattle.words.proofs.Below.{by-test}
 use Rattle.catalogue.specs.Plain.{Row}
 use Rattle.catalogue.specs.Places.{rowSeen}
 use Rattle.columns.specs.declared.Column.{Column}
-use Rattle.rows.specs.Page.{rowsAt, blocks, allBlocks, Fits, returned}
+use Rattle.rows.specs.Rows.{rowsAt, blocks, allBlocks, Fits, returned}
 use Rattle.rows.specs.Ready.{needed}
-use Rattle.rows.proofs.Steps.{needs-are, returned-full, returned-more}
+use Rattle.filling.proofs.Steps.{needs-are, returned-full, returned-more}
 
 module _ (width : ℕ) (columns : List Column) where
   at-most-asked : (asked room : ℕ) (rows : List Row) → returned width columns asked room rows ≤ asked

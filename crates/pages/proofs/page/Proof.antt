@@ -1,12 +1,13 @@
 -- Zeros, the rows, four words, and the header, each where the reply has it. Assumes nothing.
 use borrow.Author.Needs.{needs}
-use Rattle.rows.proofs.page.Statement.{statement}
-use Rattle.rows.proofs.page.Tie as tie
+use Rattle.pages.proofs.page.Statement.{statement}
+use Rattle.pages.proofs.page.Tie as tie
 use Rattle.columns.proofs.Sound.{fit-sound}
-use Rattle.rows.proofs.Whole.{page-whole}
-use Rattle.rows.proofs.Greatest.{returned-few}
-use Rattle.rows.proofs.Bound.{bound-few, bound-in}
-use Rattle.rows.specs.Page.{rowsAt, rowsMessage}
+use Rattle.pages.proofs.Whole.{page-whole}
+use Rattle.pages.proofs.Greatest.{returned-few}
+use Rattle.pages.proofs.Bound.{bound-few, bound-in}
+use Rattle.rows.specs.Rows.{rowsAt}
+use Rattle.pages.specs.Page.{rowsMessage}
 use Rattle.columns.specs.Column.{columnsOf}
 use native.Mathlib.Omega.{arith}
 use Rattle.spans.specs.Laid.{lay, header}

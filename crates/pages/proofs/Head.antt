@@ -18,10 +18,11 @@ use Rattle.cells.specs.declared.FieldAt.{FieldAt}
 use Rattle.cells.specs.declared.FieldAt.the-variants.{NumberIs, TextIs, Absent}
 use Rattle.cells.proofs.Fields.{field-seen, field-stands, seen-stand, seen-row}
 use Rattle.cells.proofs.Units.{units-double}
-use Rattle.rows.specs.Page.{allBlocks, rowsMessage, page}
-use Rattle.rows.specs.Reads.{Held, HeadReads}
-use Rattle.rows.proofs.Inner.{first-word, other-words}
-use Rattle.rows.proofs.Reply.{page-reads}
+use Rattle.rows.specs.Rows.{allBlocks}
+use Rattle.pages.specs.Page.{rowsMessage, page}
+use Rattle.pages.specs.Reads.{Held, HeadReads}
+use Rattle.pages.proofs.Inner.{first-word, other-words}
+use Rattle.pages.proofs.Reply.{page-reads}
 
 held-at : (s : List ℕ) (f : FieldAt) → FieldStands s f → Held (fieldSeen s f)
 held-at s (NumberIs v) h = omega arith

@@ -1,13 +1,11 @@
 -- Fit bindings: each column's used spans lie in the row. Assumes nothing.
-use mathlib.Core.Path.{_≡_, sym, subst}
+use mathlib.Core.Path.{_≡_, subst}
 use mathlib.Core.Bool.{true}
 use mathlib.Core.List.{List}
 use Prim.Native.Nat.{ℕ, zero, suc, _+_, _≤_, _<_}
 use native.Mathlib.Nat.{add-zero, not-suc-le-zero, le-of-suc-le-suc}
 use native.Mathlib.Omega.{arith}
 use borrow.Author.Tests.{leb-true}
-use lib.ListN.{length, getD}
-use Rattle.catalogue.specs.Places.{RowThere}
 use Rattle.columns.specs.Column.{columnsMost, columnAt, columnsFrom, columnsOf}
 use Rattle.columns.specs.Property.{statusSize, lengthSize}
 use Rattle.columns.specs.Fit.{fit}
@@ -15,18 +13,8 @@ use Rattle.columns.specs.declared.Column.{Column}
 use Rattle.columns.proofs.Columns.{from-length}
 use Rattle.columns.proofs.Sound.{fit-sound}
 use Rattle.cells.specs.Stands.{ColumnIn}
-use Rattle.rows.specs.Ready.{ColumnsIn, There}
-use Rattle.rows.proofs.Parts.{Good, good, First, first}
-
--- a row of a width that lies in n bytes has its columns there
-pub column-in : (width n row : ℕ) (c : Column) → row + width ≤ n → ColumnIn width 0 c → ColumnIn n row c
-column-in width n row c h i =
-    record {
-      typed = i .typed;
-      value = λ u. omega (arith, i .value u);
-      status = λ u. omega (arith, i .status u);
-      length = λ u. omega (arith, i .length u);
-    }
+use Rattle.rows.specs.Ready.{ColumnsIn}
+use Rattle.pages.proofs.Parts.{Good, good, First, first}
 
 in-row : (width : ℕ) (c : Column) (s : List Column) → First width c s → ColumnIn width 0 c
 in-row width c s f =
@@ -60,7 +48,3 @@ module _ (width bound : ℕ) (words : List ℕ) (fits : fit width (columnsOf bou
     where
       here : 0 + k ≡ k
       here = omega arith
-
--- a row stands at the place that was looked up
-pub there-at : (s places numbers : List ℕ) (i at : ℕ) → There s places numbers → i < length numbers → at ≡ getD places (getD numbers i 0) 0 → RowThere s at
-there-at s places numbers i at t h e = subst (RowThere s) (sym e) (t i h)

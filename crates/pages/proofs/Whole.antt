@@ -13,9 +13,10 @@ use Rattle.columns.specs.declared.Column.{Column}
 use Rattle.spans.specs.Each.{Each, Pairwise}
 use Rattle.spans.specs.Laid.{Laid, lay, lays, cleared, fourWords, header}
 use Rattle.spans.proofs.Lays.{lays-past}
-use Rattle.rows.specs.Page.{allBlocks, returned, rowsSpans, rowsMessage, page}
-use Rattle.rows.proofs.Greatest.{returned-is, returned-room}
-use Rattle.rows.proofs.Reply.{page-clear, in-buffer}
+use Rattle.rows.specs.Rows.{allBlocks, returned, rowsSpans}
+use Rattle.pages.specs.Page.{rowsMessage, page}
+use Rattle.pages.proofs.Greatest.{returned-is, returned-room}
+use Rattle.pages.proofs.Reply.{page-clear, in-buffer}
 
 module _ (size from width base status : ℕ) (columns : List Column) (rows : List Row) (fits : fit width columns ≡ true) (head : 32 ≤ from)
     (room : from + length rows * width + allBlocks columns rows ≤ size) (t : List ℕ) (long : size ≤ length t) where

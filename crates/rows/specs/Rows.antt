@@ -1,13 +1,13 @@
--- The reply to a request for rows (01, "Rows"): how many rows it has, and its bytes.
+-- The rows of a reply (01, "Rows"): how many it has, and their bytes.
 use mathlib.Core.List.{List, [], _∷_, _++_, map}
 use Prim.Native.Nat.{ℕ, zero, suc, _+_, _-_, _*_, _≤_}
-use lib.Dec.{leb, eqb}
-use lib.ListN.{length, getD, take, replicate}
+use lib.Dec.{leb}
+use lib.ListN.{getD, take}
 use Rattle.words.specs.Below.{pick}
 use Rattle.catalogue.specs.Plain.{Row}
 use Rattle.catalogue.specs.Places.{rowSeen}
 use Rattle.columns.specs.declared.Column.{Column}
-use Rattle.spans.specs.Laid.{Laid, lays, cleared, fourWords, header}
+use Rattle.spans.specs.Laid.{Laid}
 use Rattle.cells.specs.Cell.{blockRoom, columnSpans}
 
 -- the rows that have these numbers, in a catalogue whose rows stand at these places
@@ -45,32 +45,3 @@ unfoldable pub rowsSpans : ℕ → ℕ → ℕ → ℕ → List Column → List 
 rowsSpans base width row top columns [] = []
 rowsSpans base width row top columns (r ∷ rows) =
     rowSpans base row top columns r ++ rowsSpans base width (row + width) (top - blocks columns r) columns rows
-
--- "get rows 0xCC"
-abbrev pub rowsMessage : ℕ
-rowsMessage = 0xCC
-
--- "header, _cRowsReturned, eType, _chapt, skip"
-abbrev pub headSpans : ℕ → ℕ → List Laid
-headSpans status rows = header rowsMessage status ∷ record { place = 16; bytes = fourWords rows 1 0 0 } ∷ []
-
--- all spans of a reply
-abbrev pub pageSpans : ℕ → ℕ → ℕ → ℕ → ℕ → List Column → List Row → List Laid
-pageSpans size from width base status columns rows =
-    headSpans status (length rows) ++ rowsSpans base width from size columns rows
-
--- "The reply is B bytes: header, .., then rows from R .. All bytes not named are zero"
-unfoldable pub pageBytes : ℕ → ℕ → ℕ → ℕ → ℕ → List Column → List Row → List ℕ
-pageBytes size from width base status columns rows =
-    lays (replicate size 0) (pageSpans size from width base status columns rows)
-
--- the same in a buffer: "those past B are unchanged"
-unfoldable pub page : ℕ → ℕ → ℕ → ℕ → ℕ → List Column → List Row → List ℕ → List ℕ
-page size from width base status columns rows t = lays (cleared size t) (pageSpans size from width base status columns rows)
-
--- "Status 0x00040EC6 if none then remain, else 0"
-abbrev pub endOfRows : ℕ
-endOfRows = 0x00040EC6
-
-abbrev pub statusFor : ℕ → ℕ
-statusFor remaining = pick (eqb remaining 0) endOfRows 0

@@ -22,11 +22,12 @@ use Rattle.spans.proofs.Little.{le-length, read-number}
 use Rattle.cells.specs.Field.{Field, number, text, absent, fieldOf}
 use Rattle.cells.specs.Cell.{offsetWidth, lengthOf, kindOf, contentOf, variant, variantOf, cellOf, columnSpans}
 use Rattle.cells.proofs.Units.{block-length}
-use Rattle.rows.specs.Page.{allBlocks, rowsSpans, headSpans, page}
-use Rattle.rows.specs.Reads.{rowIn, rowPlace, blockPlace, Held, numberPlace, Reads}
-use Rattle.rows.proofs.Inner.{inner-number}
-use Rattle.rows.proofs.Pick.{each-right, of-block, of-cells, of-reply}
-use Rattle.rows.proofs.Reply.{page-reads}
+use Rattle.rows.specs.Rows.{allBlocks, rowsSpans}
+use Rattle.pages.specs.Page.{headSpans, page}
+use Rattle.pages.specs.Reads.{rowIn, rowPlace, blockPlace, Held, numberPlace, Reads}
+use Rattle.pages.proofs.Inner.{inner-number}
+use Rattle.pages.proofs.Pick.{each-right, of-block, of-cells, of-reply}
+use Rattle.pages.proofs.Reply.{page-reads}
 
 -- a span is read back
 abbrev Back : List ℕ → Laid → Type 0

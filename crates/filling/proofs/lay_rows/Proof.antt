@@ -1,10 +1,10 @@
 -- What the rows passed have laid, with what those that the rest will give will lay, is all. Assumes nothing.
 use borrow.Author.Needs.{needs}
-use Rattle.rows.proofs.lay_rows.Statement.{statement}
-use Rattle.rows.proofs.lay_rows.Tie as tie
-use Rattle.rows.proofs.Steps.{rows-none, returned-start, returned-asked, returned-left, count-full, count-step, lay-step, lay-done, lay-start}
-use Rattle.rows.proofs.Bound.{column-in, there-at}
-use Rattle.rows.specs.Page.{rowsAt, returned, rowsSpans}
+use Rattle.filling.proofs.lay_rows.Statement.{statement}
+use Rattle.filling.proofs.lay_rows.Tie as tie
+use Rattle.filling.proofs.Steps.{rows-none, returned-start, returned-asked, returned-left, count-full, count-step, lay-step, lay-done, lay-start}
+use Rattle.filling.proofs.Bound.{column-in, there-at}
+use Rattle.rows.specs.Rows.{rowsAt, returned, rowsSpans}
 use Rattle.spans.specs.Laid.{lays}
 use Rattle.columns.specs.Column.{columnAt, columnsOf}
 use lib.ListN.{length, take, drop}

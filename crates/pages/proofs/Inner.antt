@@ -12,7 +12,7 @@ use Rattle.spans.specs.Laid.{part}
 use Rattle.spans.proofs.Little.{le-length, read-number}
 use Rattle.cells.specs.Cell.{blockOf}
 use Rattle.cells.proofs.Units.{unit-bytes-length}
-use Rattle.rows.specs.Reads.{UnitsRead}
+use Rattle.pages.specs.Reads.{UnitsRead}
 
 -- a part of a part
 pub inner : (u : List ℕ) (at n : ℕ) (a b c : List ℕ) → part n at u ≡ a ++ (b ++ c) → part (length b) (at + length a) u ≡ b

@@ -13,7 +13,8 @@ use Rattle.columns.specs.declared.Column.{Column}
 use Rattle.spans.specs.Laid.{part}
 use Rattle.cells.specs.Field.{Field, number, text, absent}
 use Rattle.cells.specs.Cell.{offsetWidth, textSize, statusOf, lengthOf, kindOf, blockOf}
-use Rattle.rows.specs.Page.{blocks, allBlocks, rowsMessage}
+use Rattle.rows.specs.Rows.{blocks, allBlocks}
+use Rattle.pages.specs.Page.{rowsMessage}
 
 -- the j-th of rows; past the end, one of no fields
 abbrev pub rowIn : List Row → ℕ → Row

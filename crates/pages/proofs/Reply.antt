@@ -15,11 +15,12 @@ use Rattle.words.specs.Word.{le}
 use Rattle.spans.specs.Each.{Each, Pairwise}
 use Rattle.spans.specs.Laid.{Laid, endOf, Inside, Clear, Outside, part, cleared, fourWords, header, lays}
 use Rattle.spans.proofs.Lays.{each-map, lays-length, lays-outside, lays-read, lays-front}
-use Rattle.rows.specs.Page.{allBlocks, rowsSpans, rowsMessage, pageSpans, pageBytes, page}
+use Rattle.rows.specs.Rows.{allBlocks, rowsSpans}
+use Rattle.pages.specs.Page.{rowsMessage, pageSpans, pageBytes, page}
 use Rattle.rows.specs.Ready.{needed}
-use Rattle.rows.proofs.Steps.{needs-are}
-use Rattle.rows.proofs.Parts.{good}
-use Rattle.rows.proofs.Lie.{rows-lie, rows-clear}
+use Rattle.filling.proofs.Steps.{needs-are}
+use Rattle.pages.proofs.Parts.{good}
+use Rattle.pages.proofs.Lie.{rows-lie, rows-clear}
 
 -- a statement of each index is one of each member
 each-by-index : {A : Type 0} (P : A → Type 0) (d : A) (s : List A) → ((i : ℕ) → i < length s → P (getD s i d)) → Each P s
