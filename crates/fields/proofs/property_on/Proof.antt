@@ -1,13 +1,13 @@
 -- Each answer is the definition's at the tests that led to it. Assumes nothing.
 use borrow.Author.Needs.{needs}
-use Rattle.bindings.proofs.fields.property_on.Statement.{statement}
-use Rattle.bindings.proofs.fields.property_on.Tie as tie
+use Rattle.fields.proofs.property_on.Statement.{statement}
+use Rattle.fields.proofs.property_on.Tie as tie
 use native.Mathlib.Omega.{arith}
 use mathlib.Core.Path.{sym, _∙_}
 use lib.ListN.{length}
 use borrow.Author.Tests.{not-true, not-false, eq-eqb, ne-eqb}
-use Rattle.bindings.specs.Wire.{propertyOn}
-use Rattle.bindings.proofs.Wire.{room-there}
+use Rattle.fields.specs.Fields.{propertyOn}
+use Rattle.fields.proofs.Fields.{room-there}
 
 room-requires : tie.Need-room-requires
 room-requires c κs = search needs

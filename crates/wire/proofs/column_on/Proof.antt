@@ -1,9 +1,9 @@
 -- Each answer is the definition's at what its parts gave. Assumes nothing.
 use borrow.Author.Needs.{needs}
-use Rattle.bindings.proofs.fields.column_on.Statement.{statement}
-use Rattle.bindings.proofs.fields.column_on.Tie as tie
+use Rattle.wire.proofs.column_on.Statement.{statement}
+use Rattle.wire.proofs.column_on.Tie as tie
 use mathlib.Core.Path.{sym, _∙_}
-use Rattle.bindings.specs.Wire.{columnOn}
+use Rattle.wire.specs.Wire.{columnOn}
 
 property-on-requires : tie.Need-property-on-requires
 property-on-requires c κs = search needs

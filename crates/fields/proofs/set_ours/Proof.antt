@@ -1,13 +1,13 @@
 -- Each byte passed is the identifier's; the first that is not ends the search. Assumes nothing.
-use Rattle.bindings.proofs.fields.set_ours.Statement.{statement}
-use Rattle.bindings.proofs.fields.set_ours.Tie as tie
+use Rattle.fields.proofs.set_ours.Statement.{statement}
+use Rattle.fields.proofs.set_ours.Tie as tie
 use borrow.Author.Needs.{needs}
 use native.Mathlib.Omega.{arith}
 use Prim.Native.Nat.{ℕ, _+_, _-_, _≤_, _<_}
 use mathlib.Core.Path.{_≡_, sym}
 use lib.ListN.{getD}
 use borrow.Author.Count.{below-more}
-use Rattle.bindings.proofs.Wire.{set-other, set-same}
+use Rattle.fields.proofs.Fields.{set-other, set-same}
 
 abbrev Inv-loop : tie.InvT-loop
 Inv-loop m at i₀ i = (i ≤ 16) × ((j : ℕ) → j < i → getD m (at + j) 0 ≡ 16 + j)

@@ -1,12 +1,12 @@
 -- Each answer is the definition's at the tests that led to it. Assumes nothing.
 use borrow.Author.Needs.{needs}
-use Rattle.bindings.proofs.fields.flag_on.Statement.{statement}
-use Rattle.bindings.proofs.fields.flag_on.Tie as tie
+use Rattle.fields.proofs.flag_on.Statement.{statement}
+use Rattle.fields.proofs.flag_on.Tie as tie
 use native.Mathlib.Omega.{arith}
 use mathlib.Core.Path.{sym, _∙_}
 use lib.ListN.{length}
 use borrow.Author.Tests.{not-true, not-false}
-use Rattle.bindings.proofs.Wire.{room-there, flag-past, flag-over, flag-there}
+use Rattle.fields.proofs.Fields.{room-there, flag-past, flag-over, flag-there}
 
 room-requires : tie.Need-room-requires
 room-requires c κs = search needs

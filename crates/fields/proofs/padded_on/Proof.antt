@@ -1,6 +1,6 @@
 -- The padding is within the message, and each byte of it that was passed is zero. Assumes nothing.
-use Rattle.bindings.proofs.fields.padded_on.Statement.{statement}
-use Rattle.bindings.proofs.fields.padded_on.Tie as tie
+use Rattle.fields.proofs.padded_on.Statement.{statement}
+use Rattle.fields.proofs.padded_on.Tie as tie
 use borrow.Author.Needs.{needs}
 use native.Mathlib.Omega.{arith}
 use native.Mathlib.Nat.{mod-lt}
@@ -9,8 +9,8 @@ use mathlib.Core.Path.{_≡_, sym, _∙_}
 use lib.ListN.{length, getD}
 use borrow.Author.Tests.{not-true, not-false}
 use borrow.Author.Count.{below-more}
-use Rattle.bindings.specs.Wire.{padCount}
-use Rattle.bindings.proofs.Wire.{room-there, padded-past, padded-broken, padded-passed}
+use Rattle.fields.specs.Fields.{padCount}
+use Rattle.fields.proofs.Fields.{room-there, padded-past, padded-broken, padded-passed}
 
 abbrev Inv-loop : tie.InvT-loop
 Inv-loop m at unit over pad i₀ i = (i ≤ pad) × ((j : ℕ) → j < i → getD m (at + j) 0 ≡ 0)

@@ -9,9 +9,9 @@ use lib.Dec.{leb, eqb}
 use lib.ListN.{length, getD}
 use Rattle.words.specs.Word.{numberAt}
 use Rattle.words.proofs.Below.{by-test, every-shown, every-broken}
-use Rattle.bindings.specs.Wire.{padCount, paddedOn, numberOn, flagOn, setOurs}
-use Rattle.bindings.specs.declared.PlaceRead.{PlaceRead}
-use Rattle.bindings.specs.declared.NumberRead.{NumberRead}
+use Rattle.fields.specs.Fields.{padCount, paddedOn, numberOn, flagOn, setOurs}
+use Rattle.fields.specs.declared.PlaceRead.{PlaceRead}
+use Rattle.fields.specs.declared.NumberRead.{NumberRead}
 
 pub room-shift : (len at n : ℕ) → n ≤ len → leb at (len - n) ≡ leb (at + n) len
 room-shift len at n h =

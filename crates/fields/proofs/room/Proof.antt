@@ -1,11 +1,11 @@
 -- What is left of the length after n bytes is where they may begin at the latest. Assumes nothing.
-use Rattle.bindings.proofs.fields.room.Statement.{statement}
-use Rattle.bindings.proofs.fields.room.Tie as tie
+use Rattle.fields.proofs.room.Statement.{statement}
+use Rattle.fields.proofs.room.Tie as tie
 use native.Mathlib.Omega.{arith}
 use Prim.Native.Nat.{_+_}
 use borrow.Author.Tests.{lt-leb}
 use mathlib.Core.Path.{sym}
-use Rattle.bindings.proofs.Wire.{room-shift}
+use Rattle.fields.proofs.Fields.{room-shift}
 
 returns : tie.Need-returns
 returns c = let a = c .before .args in sym (lt-leb (a .at + a .n) (a .len) (omega arith))

@@ -1,10 +1,10 @@
 -- Each answer is the definition's at what its parts gave. Assumes nothing.
 use borrow.Author.Needs.{needs}
-use Rattle.bindings.proofs.fields.value_on.Statement.{statement}
-use Rattle.bindings.proofs.fields.value_on.Tie as tie
+use Rattle.wire.proofs.value_on.Statement.{statement}
+use Rattle.wire.proofs.value_on.Tie as tie
 use mathlib.Core.Path.{sym, _∙_}
 use borrow.Author.Tests.{eq-eqb, ne-eqb}
-use Rattle.bindings.specs.Wire.{valueOn}
+use Rattle.wire.specs.Wire.{valueOn}
 
 spot-on-requires : tie.Need-spot-on-requires
 spot-on-requires c κs = search needs

@@ -1,15 +1,15 @@
 -- The two widths that are read are the two that may be asked for. Assumes nothing.
 use borrow.Author.Needs.{needs}
-use Rattle.bindings.proofs.fields.number_on.Statement.{statement}
-use Rattle.bindings.proofs.fields.number_on.Tie as tie
+use Rattle.fields.proofs.number_on.Statement.{statement}
+use Rattle.fields.proofs.number_on.Tie as tie
 use native.Mathlib.Omega.{arith}
 use Prim.Native.Nat.{ℕ, _+_}
 use mathlib.Core.Path.{_≡_, sym, ap, _∙_}
 use lib.ListN.{length}
 use borrow.Author.Tests.{not-true, not-false}
 use Rattle.words.specs.Word.{numberAt}
-use Rattle.bindings.proofs.Wire.{room-there, number-past, number-there}
-use Rattle.bindings.specs.declared.NumberRead.{NumberRead}
+use Rattle.fields.proofs.Fields.{room-there, number-past, number-there}
+use Rattle.fields.specs.declared.NumberRead.{NumberRead}
 
 room-requires : tie.Need-room-requires
 room-requires c κs = search needs

@@ -1,10 +1,10 @@
 -- Each answer is the definition's at what its parts gave. Assumes nothing.
 use borrow.Author.Needs.{needs}
-use Rattle.bindings.proofs.fields.spot_on.Statement.{statement}
-use Rattle.bindings.proofs.fields.spot_on.Tie as tie
+use Rattle.wire.proofs.spot_on.Statement.{statement}
+use Rattle.wire.proofs.spot_on.Tie as tie
 use mathlib.Core.Path.{sym, _∙_}
 use borrow.Author.Tests.{eq-eqb, ne-eqb}
-use Rattle.bindings.specs.Wire.{spotOn}
+use Rattle.wire.specs.Wire.{spotOn}
 
 flag-on-requires : tie.Need-flag-on-requires
 flag-on-requires c κs = search needs
