@@ -1,6 +1,6 @@
 -- Where the program stands between two lines.
 use Prim.Native.Nat.{ℕ, _≤_}
-use Rattle.calls.specs.declared.Place.{Place}
+use Rattle.buffers.specs.declared.Place.{Place}
 
 -- how much of the output may wait before a line
 abbrev pub outFull : ℕ

@@ -1,10 +1,10 @@
 -- The line before its comment is a part of it. Assumes nothing.
 use Prim.Native.Nat.{_-_}
 use lib.ListN.{length, take}
-use Rattle.calls.proofs.Fitting.{part-length, fits-more}
+use Rattle.buffers.proofs.Fitting.{part-length, fits-more}
 use borrow.Author.Needs.{needs}
-use Rattle.calls.proofs.call_of.Statement.{statement}
-use Rattle.calls.proofs.call_of.Tie as tie
+use Rattle.buffers.proofs.call_of.Statement.{statement}
+use Rattle.buffers.proofs.call_of.Tie as tie
 
 before-comment-requires : tie.Need-before-comment-requires
 before-comment-requires c κs = search needs
