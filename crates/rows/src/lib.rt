@@ -81,7 +81,7 @@ pub fn lay_row(
     let mut left = bound;
     while 0 < left {
         let column = cells::column_at(words, k);
-        place = laying::lay_column(reply, s, fields, column, base, row, place);
+        place = entries::lay_column(reply, s, fields, column, base, row, place);
         k += 1;
         left -= 1;
     }

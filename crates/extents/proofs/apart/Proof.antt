@@ -1,7 +1,7 @@
 -- The first span ends where the second begins or earlier, or the other way round. Assumes nothing.
 use borrow.Author.Needs.{needs}
-use Rattle.layout.proofs.apart.Statement.{statement}
-use Rattle.layout.proofs.apart.Tie as tie
+use Rattle.extents.proofs.apart.Statement.{statement}
+use Rattle.extents.proofs.apart.Tie as tie
 use borrow.Author.Tests.{le-leb, lt-leb}
 use native.Mathlib.Omega.{arith}
 use Prim.Native.Nat.{_+_}

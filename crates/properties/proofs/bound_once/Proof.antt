@@ -1,6 +1,6 @@
 -- The columns that are left decide as all of them do: each is held against those after it. Assumes nothing.
-use Rattle.fitness.proofs.bound_once.Statement.{statement}
-use Rattle.fitness.proofs.bound_once.Tie as tie
+use Rattle.properties.proofs.bound_once.Statement.{statement}
+use Rattle.properties.proofs.bound_once.Tie as tie
 use borrow.Author.Needs.{needs}
 use Prim.Native.Nat.{_+_}
 use mathlib.Core.Path.{_≡_, sym, _∙_}

@@ -1,7 +1,7 @@
 -- Each answer is the definition's at the tests that led to it. Assumes nothing.
 use borrow.Author.Needs.{needs}
-use Rattle.fitness.proofs.column_fits.Statement.{statement}
-use Rattle.fitness.proofs.column_fits.Tie as tie
+use Rattle.properties.proofs.column_fits.Statement.{statement}
+use Rattle.properties.proofs.column_fits.Tie as tie
 use mathlib.Core.Path.{sym, _∙_}
 use borrow.Author.Tests.{not-true, not-false}
 use Rattle.columns.specs.Column.{columnAt}

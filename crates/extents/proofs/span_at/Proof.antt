@@ -1,7 +1,7 @@
 -- The index's remainder by 3 says which of the column's spans it is. Assumes nothing.
 use borrow.Author.Needs.{needs}
-use Rattle.layout.proofs.span_at.Statement.{statement}
-use Rattle.layout.proofs.span_at.Tie as tie
+use Rattle.extents.proofs.span_at.Statement.{statement}
+use Rattle.extents.proofs.span_at.Tie as tie
 use borrow.Author.Tests.{eq-eqb, ne-eqb}
 
 mul-at : tie.Need-mul-at

@@ -1,6 +1,6 @@
 -- The flag decides. Assumes nothing.
-use Rattle.layout.proofs.span_or.Statement.{statement}
-use Rattle.layout.proofs.span_or.Tie as tie
+use Rattle.extents.proofs.span_or.Statement.{statement}
+use Rattle.extents.proofs.span_or.Tie as tie
 use borrow.Author.Tests.{eq-eqb, ne-eqb}
 
 returns : tie.Need-returns

@@ -1,7 +1,7 @@
 -- Block, cell, status and length, one after the other, each from the field of the column's property. Assumes nothing.
 use borrow.Author.Needs.{needs}
-use Rattle.laying.proofs.lay_column.Statement.{statement}
-use Rattle.laying.proofs.lay_column.Tie as tie
+use Rattle.entries.proofs.lay_column.Statement.{statement}
+use Rattle.entries.proofs.lay_column.Tie as tie
 use mathlib.Core.Path.{_∙_, sym, ap}
 use Prim.Native.Nat.{ℕ, _-_}
 use native.Mathlib.Omega.{arith}
