@@ -2,10 +2,6 @@
 use Prim.Native.Nat.{ℕ, _+_, _≤_}
 use Rattle.answers.specs.declared.Left.{Left}
 
--- the bytes of an answer without hex digits, at most
-abbrev pub plain : ℕ
-plain = 100
-
 -- the bytes of any answer, at most: a reply of 20,000 bytes in hex digits beside the words
 abbrev pub answerMost : ℕ
 answerMost = 40100

@@ -18,10 +18,11 @@ use Rattle.words.proofs.Below.{by-test}
 use Rattle.columns.specs.declared.Spot.{Spot}
 use Rattle.columns.specs.declared.Value.{Value}
 use Rattle.columns.specs.declared.Column.{Column}
-use Rattle.bindings.specs.declared.SpotRead.{SpotRead}
-use Rattle.bindings.specs.declared.ValueRead.{ValueRead}
-use Rattle.bindings.specs.declared.ColumnRead.{ColumnRead}
-use Rattle.bindings.specs.Wire.{ofPlace, ofNumber, ofSpot, ofValue, ofColumn, withRead, padCount, paddedOn, numberOn, flagOn, spotOn, valueOn, setSize, setFirst, setOurs, numbered, kindAt, propertyAt, specSize, propertyOn, typeWidth, columnOn}
+use Rattle.wire.specs.declared.SpotRead.{SpotRead}
+use Rattle.wire.specs.declared.ValueRead.{ValueRead}
+use Rattle.wire.specs.declared.ColumnRead.{ColumnRead}
+use Rattle.fields.specs.Fields.{ofPlace, ofNumber, withRead, padCount, paddedOn, numberOn, flagOn, setSize, setFirst, setOurs, numbered, kindAt, propertyAt, specSize, propertyOn}
+use Rattle.wire.specs.Wire.{ofSpot, ofValue, ofColumn, spotOn, valueOn, typeWidth, columnOn}
 use Rattle.bindings.specs.Bindings.{columnsAt, before, columnsOn, bindingsOn}
 use Rattle.bindings.specs.Plain.{Parsed, andThen, bytes, numeral, zeroBytes, padding, flag, spot, value, isOurs, property, column, columns, bindings}
 

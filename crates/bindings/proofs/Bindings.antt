@@ -12,10 +12,11 @@ use Rattle.words.specs.Below.{pick}
 use Rattle.words.proofs.Below.{by-test}
 use Rattle.columns.specs.Column.{kept, keptAll}
 use Rattle.columns.specs.declared.Column.{Column}
-use Rattle.bindings.specs.Wire.{ofPlace, ofColumn, withRead, paddedOn, columnOn}
+use Rattle.fields.specs.Fields.{ofPlace, withRead, paddedOn}
+use Rattle.wire.specs.Wire.{ofColumn, columnOn}
 use Rattle.bindings.specs.Bindings.{before, columnsOn, keeping, keptOr}
-use Rattle.bindings.specs.declared.PlaceRead.{PlaceRead}
-use Rattle.bindings.specs.declared.ColumnRead.{ColumnRead}
+use Rattle.fields.specs.declared.PlaceRead.{PlaceRead}
+use Rattle.wire.specs.declared.ColumnRead.{ColumnRead}
 
 more : (left : ℕ) (m : List ℕ) (at : ℕ) → 0 < left
     → columnsOn left m at

@@ -1,4 +1,3 @@
-pub mod Wire
 pub mod Bindings
 pub mod Told
 pub mod Agree

@@ -9,7 +9,8 @@ use Rattle.words.specs.Below.{pick}
 use Rattle.words.specs.Word.{numberAt}
 use Rattle.columns.specs.declared.Column.{Column}
 use Rattle.columns.specs.Column.{keptAll}
-use Rattle.bindings.specs.Wire.{ofPlace, ofColumn, withRead, paddedOn, columnOn}
+use Rattle.fields.specs.Fields.{ofPlace, withRead, paddedOn}
+use Rattle.wire.specs.Wire.{ofColumn, columnOn}
 
 -- the places of the body's fields, counted from the message's first byte
 abbrev pub handleAt : ℕ

@@ -1,4 +1,3 @@
-pub mod Wire
 pub mod Bindings
 pub mod Plain
 pub mod Told

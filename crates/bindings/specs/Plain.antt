@@ -12,7 +12,8 @@ use Rattle.words.specs.Word.{number}
 use Rattle.columns.specs.declared.Value.{Value}
 use Rattle.columns.specs.declared.Spot.{Spot}
 use Rattle.columns.specs.declared.Column.{Column}
-use Rattle.bindings.specs.Wire.{padCount, setSize, setFirst, numbered, typeWidth}
+use Rattle.fields.specs.Fields.{padCount, setSize, setFirst, numbered}
+use Rattle.wire.specs.Wire.{typeWidth}
 use Rattle.bindings.specs.Bindings.{Bindings, before, withColumns}
 
 -- what was read, the place after it, and the bytes that are left; none where the body is malformed

@@ -1,41 +1,11 @@
 // The message that sets a cursor's bindings, read to values.
-mod fields;
-
-use columns::Column;
-use columns::Spot;
-use columns::Value;
+use fields::PlaceRead;
+use wire::ColumnRead;
 ghost use mathlib.Core.Path.{_≡_};
 ghost use lib.ListN.{length};
 ghost use Rattle.columns.specs.Column.{roomWords};
 ghost use Rattle.bindings.specs.Bindings.{columnsAt, columnsOn, keeping, keptOr};
 ghost use Rattle.bindings.specs.Told.{malformed, Told};
-
-// A place after padding.
-pub enum PlaceRead {
-    Place(usize),
-    Malformed,
-}
-
-// A number with the place after it.
-pub enum NumberRead {
-    Number(u32, usize),
-    Malformed,
-}
-
-pub enum SpotRead {
-    At(Spot, usize),
-    Malformed,
-}
-
-pub enum ValueRead {
-    At(Value, usize),
-    Malformed,
-}
-
-pub enum ColumnRead {
-    At(Column, usize),
-    Malformed,
-}
 
 // What a message holds, but for its columns.
 pub struct BindingsRead {
@@ -68,7 +38,7 @@ fn read_columns(m: &[u8], count: u32, words: &mut [u32]) -> bool
         let PlaceRead::Place(place) = fields::padded_on(m, at, 4) else {
             return false;
         };
-        let ColumnRead::At(column, next) = fields::column_on(m, place) else {
+        let ColumnRead::At(column, next) = wire::column_on(m, place) else {
             return false;
         };
         columns::keep(words, k, column);

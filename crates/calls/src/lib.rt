@@ -1,79 +1,11 @@
 // A file of recorded calls is read in chunks, each call is served, and the answers are written by the buffer.
-ghost use Prim.Native.Nat.{_+_, _≤_, _<_};
+ghost use Prim.Native.Nat.{_<_};
 ghost use lib.ListN.{length};
-ghost use Rattle.lexing.specs.Line.{Fits};
 ghost use Rattle.answers.specs.Room.{Sized};
-ghost use Rattle.calls.specs.Room.{Stands};
-use lexing::Call;
-use lexing::Reason;
-
-// Where the program stands: the number of the present line, how many of its bytes are kept and whether there were more, the
-// length of the lent catalogue, how much of the output waits to be written, and whether the file has ended.
-struct Place {
-    number: u64,
-    kept: usize,
-    cut: bool,
-    catalogue: usize,
-    used: usize,
-    ended: bool,
-}
+ghost use Rattle.buffers.specs.Room.{Stands};
+use buffers::Place;
 
 const FULL: usize = 65536;
-
-// Keeps the bytes of a part of a line, as far as there is room.
-fn keep(line: &mut [u8], place: Place, part: &[u8]) -> Place
-    requires { ⌜ Stands (length (now line)) place ⌝ }
-    ensures { λ r. ⌜ Stands (length (now (line .entry))) r ⌝ }
-{
-    let kept = place.kept;
-    let room = line.len() - kept;
-    if room < part.len() {
-        spans::lay_bytes(line, kept, &part[0..room]);
-        return Place {
-            number: place.number,
-            kept: kept + room,
-            cut: true,
-            catalogue: place.catalogue,
-            used: place.used,
-            ended: false,
-        };
-    }
-    spans::lay_bytes(line, kept, part);
-    Place {
-        number: place.number,
-        kept: kept + part.len(),
-        cut: place.cut,
-        catalogue: place.catalogue,
-        used: place.used,
-        ended: false,
-    }
-}
-
-// The call that the kept bytes are. A line that was cut is too long, unless the cut is in its comment.
-fn call_of(line: &[u8], cut: bool) -> Call
-    ensures { λ r. ⌜ Fits (length (now (line .entry))) r ⌝ }
-{
-    let end = runs::before_comment(line);
-    if end < line.len() {
-        return lexing::read(&line[0..end]);
-    }
-    if cut {
-        return Call::Fault(Reason::TooLong);
-    }
-    lexing::read(line)
-}
-
-// Writes the waiting output where it is more than so much. Answers how much waits then.
-fn written(out: &[u8], used: usize, most: usize) -> usize
-    requires { ⌜ used ≤ length (now out) ⌝ }
-    ensures { λ r. ⌜ r ≤ most ⌝ }
-{
-    if used <= most {
-        return used;
-    }
-    io::write_all(1, &out[0..used]);
-    0
-}
 
 // Serves the line whose bytes are kept, and goes on to the next.
 fn serve(
@@ -91,7 +23,7 @@ fn serve(
     let kept = place.kept;
     let number = place.number;
     let text = &line[0..kept];
-    let call = call_of(text, place.cut);
+    let call = buffers::call_of(text, place.cut);
     let left = answers::serve(
         call,
         text,
@@ -105,7 +37,7 @@ fn serve(
         place.used,
     );
     let lent = left.catalogue;
-    let used = written(out, left.used, FULL);
+    let used = buffers::written(out, left.used, FULL);
     Place {
         number: std::num::wrapping_add_u64(number, 1),
         kept: 0,
@@ -134,7 +66,7 @@ fn serve_chunk(
     let mut at = 0;
     while at < chunk.len() {
         let end = runs::before_feed(chunk, at);
-        here = keep(line, here, &chunk[at..end]);
+        here = buffers::keep(line, here, &chunk[at..end]);
         if end < chunk.len() {
             here = serve(line, here, table, catalogue, bytes, space, out);
             at = end + 1;
@@ -164,18 +96,6 @@ fn serve_last(
     serve(line, place, table, catalogue, bytes, space, out)
 }
 
-// Reads once. Answers how many bytes came: none at the end, or where the read fails, which is then said.
-fn read_some(fd: i32, path: &[u8], chunk: &mut [u8]) -> usize
-    ensures { λ r. ⌜ r ≤ length (now (chunk .entry)) ⌝ }
-{
-    let got = libc::read(fd, chunk);
-    if got < 0 {
-        os::fail(path);
-        return 0;
-    }
-    io::count(got, chunk)
-}
-
 // Reads once and serves the lines that end there.
 fn turn(
     fd: i32,
@@ -192,7 +112,7 @@ fn turn(
     requires { ⌜ Stands (length (now line)) place × Sized (length (now table)) (length (now catalogue)) (length (now bytes)) (length (now space)) (length (now out)) ⌝ }
     ensures { λ r. ⌜ Stands (length (now (line .entry))) r ⌝ }
 {
-    let count = read_some(fd, path, chunk);
+    let count = buffers::read_some(fd, path, chunk);
     if count == 0 {
         return Place {
             number: place.number,
@@ -266,7 +186,7 @@ fn serve_file(
         turns = left(turns, place.ended);
     }
     let last = serve_last(line, place, table, catalogue, bytes, space, out);
-    written(out, last.used, 0);
+    buffers::written(out, last.used, 0);
 }
 
 // Serves the recorded calls of an open file, and writes the answers to standard output.

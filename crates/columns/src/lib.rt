@@ -1,11 +1,9 @@
 // The bindings of a cursor: which columns a row has, and where in the row each stands.
 ghost use mathlib.Core.Path.{_≡_};
-ghost use Prim.Native.Nat.{_+_, _≤_, _<_};
+ghost use Prim.Native.Nat.{_+_, _<_};
 ghost use lib.ListN.{length};
-ghost use Rattle.columns.specs.Each.{every, pairwise};
-ghost use Rattle.columns.specs.Column.{columnsMost, roomWords, columnAt, columnsFrom, columnsOf, noWords, kept};
+ghost use Rattle.columns.specs.Column.{roomWords, noWords, kept};
 ghost use Rattle.columns.specs.Property.{within, numberType, numberSize, cellSize};
-ghost use Rattle.columns.specs.Fit.{columnFits, unlike, differ, columnsFit, fit};
 
 // Where a column's value stands in a row: whether it is used, its place and its size.
 pub struct Value {

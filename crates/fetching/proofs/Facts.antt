@@ -23,9 +23,9 @@ use Rattle.sessions.proofs.Tables.{part-length}
 use Rattle.columns.proofs.Sound.{fit-sound}
 use Rattle.refusals.specs.Refusal.{firstCause}
 use Rattle.requests.specs.declared.Request.{Request}
-use Rattle.rows.specs.Page.{rowsAt}
+use Rattle.rows.specs.Rows.{rowsAt}
 use Rattle.rows.specs.Ready.{Words, There}
-use Rattle.rows.proofs.Steps.{rows-more}
+use Rattle.filling.proofs.Steps.{rows-more}
 use Rattle.fetching.specs.Fetch.{numbered, remaining, earlyCauses}
 use Rattle.fetching.specs.Ready.{rowsOf, Placed, FetchReady}
 

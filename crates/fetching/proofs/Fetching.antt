@@ -15,9 +15,9 @@ use Rattle.sessions.proofs.Writes.{moved-block}
 use Rattle.refusals.specs.Refusal.{firstCause}
 use Rattle.refusals.proofs.First.{first-stop, first-go, first-both, first-under}
 use Rattle.requests.specs.declared.Request.{Request}
-use Rattle.rows.specs.Page.{statusFor}
-use Rattle.rows.proofs.Greatest.{returned-room}
-use Rattle.rows.proofs.Reply.{bytes-length}
+use Rattle.pages.specs.Page.{statusFor}
+use Rattle.pages.proofs.Greatest.{returned-room}
+use Rattle.pages.proofs.Reply.{bytes-length}
 use Rattle.fetching.specs.Fetch.{remaining, firstUnfit, earlyCauses, fetchCauses, sent, rowsSent, thenLeft, fetchReply}
 use Rattle.fetching.specs.Ready.{rowsOf, FetchReady, Fetched}
 use Rattle.fetching.proofs.Facts.{bindings-fit}

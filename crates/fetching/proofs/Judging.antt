@@ -14,7 +14,7 @@ use Rattle.sessions.specs.Layout.{recordsAt, recordsSize, part}
 use Rattle.sessions.specs.Seat.{Cursor, cursorHeld}
 use Rattle.refusals.specs.Refusal.{firstCause}
 use Rattle.requests.specs.declared.Request.{Request}
-use Rattle.rows.specs.Page.{blocks}
+use Rattle.rows.specs.Rows.{blocks}
 use Rattle.fetching.specs.Fetch.{notServed, firstUnfit, earlyCauses}
 
 -- the causes that need no row, of a cursor by its words

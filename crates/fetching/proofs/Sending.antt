@@ -11,11 +11,12 @@ use Rattle.sessions.specs.Seat.{Cursor, cursorHeld}
 use Rattle.refusals.specs.Refusal.{firstCause}
 use Rattle.requests.specs.Request.{Sound}
 use Rattle.requests.specs.declared.Request.{Request}
-use Rattle.rows.specs.Page.{rowsAt, returned, page, statusFor}
-use Rattle.rows.specs.Reads.{rowIn}
-use Rattle.rows.specs.Ready.{PageReady}
-use Rattle.rows.proofs.Greatest.{returned-is, returned-room}
-use Rattle.rows.proofs.Reply.{page-is}
+use Rattle.rows.specs.Rows.{rowsAt, returned}
+use Rattle.pages.specs.Page.{page, statusFor}
+use Rattle.pages.specs.Reads.{rowIn}
+use Rattle.pages.specs.Ready.{PageReady}
+use Rattle.pages.proofs.Greatest.{returned-is, returned-room}
+use Rattle.pages.proofs.Reply.{page-is}
 use Rattle.fetching.specs.Fetch.{remaining, earlyCauses, sent, rowsSent, thenLeft, fetchReply}
 use Rattle.fetching.specs.Ready.{rowsOf, FetchReady}
 use Rattle.fetching.proofs.Facts.{count-is, count-most, position-most, all-rows, bindings-fit, words-ready}

@@ -8,8 +8,9 @@ use Rattle.words.specs.Below.{both}
 use Rattle.catalogue.specs.Plain.{Row}
 use Rattle.sessions.specs.Seat.{Cursor, moved}
 use Rattle.requests.specs.declared.Request.{Request}
-use Rattle.rows.specs.Page.{blocks, returned, pageBytes, statusFor}
-use Rattle.rows.specs.Reads.{rowIn}
+use Rattle.rows.specs.Rows.{blocks, returned}
+use Rattle.pages.specs.Page.{pageBytes, statusFor}
+use Rattle.pages.specs.Reads.{rowIn}
 
 -- the rows that have these numbers
 abbrev pub numbered : List Row → List ℕ → List Row

@@ -12,7 +12,7 @@ use Rattle.sessions.specs.Well.{cursorBelow}
 use Rattle.sessions.specs.Fits.{CursorFits}
 use Rattle.requests.specs.declared.Request.{Request}
 use Rattle.requests.specs.Request.{Sound}
-use Rattle.rows.specs.Reads.{rowIn}
+use Rattle.pages.specs.Reads.{rowIn}
 use Rattle.refusals.specs.Refusal.{firstCause}
 use Rattle.fetching.specs.Fetch.{fetchCauses, fetchReply, fetched}
 

@@ -17,7 +17,7 @@ use Rattle.columns.specs.declared.Value.{Value}
 use Rattle.columns.specs.declared.Spot.{Spot}
 use Rattle.columns.specs.declared.Column.{Column}
 use Rattle.bindings.specs.Bindings.{Bindings, before, withColumns}
-use Rattle.bindings.specs.Wire.{typeWidth}
+use Rattle.wire.specs.Wire.{typeWidth}
 use Rattle.bindings.specs.Plain.{Parsed, andThen, bytes, numeral, padding, flag, spot, value, property, column, columns, bindings}
 use Rattle.sessions.specs.Well.{flagged, tidy}
 

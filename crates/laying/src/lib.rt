@@ -1,18 +1,17 @@
-// The columns of a row written into a reply: cells, status bytes, lengths and blocks.
+// The parts of a column written into a reply: its cell, status byte, length and block.
 ghost use mathlib.Core.Path.{_≡_};
 ghost use mathlib.Core.List.{[], _∷_, _++_};
-ghost use Prim.Native.Nat.{_+_, _-_, _*_, _≤_, _<_};
+ghost use Prim.Native.Nat.{_+_, _*_, _≤_, _<_};
 ghost use lib.ListN.{length};
 ghost use Rattle.words.specs.Below.{pick};
 ghost use Rattle.words.specs.Word.{le, halves};
-ghost use Rattle.catalogue.specs.Places.{unitsPart, rowOf};
+ghost use Rattle.catalogue.specs.Places.{unitsPart};
 ghost use Rattle.columns.specs.Property.{lengthSize};
 ghost use Rattle.columns.specs.Fit.{isUsed};
 ghost use Rattle.spans.specs.Laid.{lay, lays};
 ghost use Rattle.cells.specs.Field.{fieldSeen};
-ghost use Rattle.cells.specs.Cell.{cellBytes, blockOf, blockSize, blockSpan, laidIf, blockRoom, columnSpans};
-ghost use Rattle.cells.specs.Stands.{TextStands, FieldStands, ColumnIn, ColumnReady};
-use catalogue::Fields;
+ghost use Rattle.cells.specs.Cell.{cellBytes, blockOf, blockSize, blockSpan, laidIf};
+ghost use Rattle.cells.specs.Stands.{TextStands, FieldStands, ColumnIn};
 use catalogue::Text;
 use cells::FieldAt;
 use columns::Column;
@@ -29,7 +28,7 @@ fn lay_text(reply: &mut [u8], s: &[u8], text: Text, place: usize)
 }
 
 // A field's block, where the value is used and there is one.
-fn lay_block(reply: &mut [u8], s: &[u8], used: u32, field: FieldAt, place: usize)
+pub fn lay_block(reply: &mut [u8], s: &[u8], used: u32, field: FieldAt, place: usize)
     requires { ⌜ FieldStands (now s) field × (place + pick (isUsed used) (blockSize (fieldSeen (now s) field)) 0 ≤ length (now reply)) ⌝ }
     ensures { λ _. ⌜ now (reply .exit) ≡ lays (now (reply .entry)) (pick (isUsed used) (blockSpan place (fieldSeen (now (s .entry)) field)) []) ⌝ }
 {
@@ -53,7 +52,7 @@ fn lay_variant(reply: &mut [u8], at: usize, kind: u64, number: u64)
 }
 
 // A column's cell, where its value is used.
-fn lay_value(reply: &mut [u8], column: Column, row: usize, kind: u64, number: u64)
+pub fn lay_value(reply: &mut [u8], column: Column, row: usize, kind: u64, number: u64)
     requires { ⌜ ColumnIn (length (now reply)) row column ⌝ }
     ensures { λ _. ⌜ now (reply .exit) ≡ lays (now (reply .entry)) (laidIf (column .value .used) (row + column .value .offset) (cellBytes (column .property) (column .vtype) kind number)) ⌝ }
 {
@@ -69,7 +68,7 @@ fn lay_value(reply: &mut [u8], column: Column, row: usize, kind: u64, number: u6
 }
 
 // A column's status byte, where it is used.
-fn lay_status(reply: &mut [u8], column: Column, row: usize, status: u8)
+pub fn lay_status(reply: &mut [u8], column: Column, row: usize, status: u8)
     requires { ⌜ ColumnIn (length (now reply)) row column ⌝ }
     ensures { λ _. ⌜ now (reply .exit) ≡ lays (now (reply .entry)) (laidIf (column .status .used) (row + column .status .offset) (status ∷ [])) ⌝ }
 {
@@ -81,7 +80,7 @@ fn lay_status(reply: &mut [u8], column: Column, row: usize, status: u8)
 }
 
 // A column's length, where it is used.
-fn lay_length(reply: &mut [u8], column: Column, row: usize, value: u64)
+pub fn lay_length(reply: &mut [u8], column: Column, row: usize, value: u64)
     requires { ⌜ ColumnIn (length (now reply)) row column ⌝ }
     ensures { λ _. ⌜ now (reply .exit) ≡ lays (now (reply .entry)) (laidIf (column .length .used) (row + column .length .offset) (le lengthSize value)) ⌝ }
 {
@@ -90,39 +89,4 @@ fn lay_length(reply: &mut [u8], column: Column, row: usize, value: u64)
     }
     let at = row + (column.length.offset as usize);
     little::lay_word(reply, at, value);
-}
-
-// All of a column in the row at `row`, its block ending at `top`: the block's place is given back.
-pub fn lay_column(
-    reply: &mut [u8],
-    s: &[u8],
-    fields: Fields,
-    column: Column,
-    base: u64,
-    row: usize,
-    top: usize,
-) -> usize
-    requires { ⌜ ColumnReady (length (now reply)) (now s) fields column base row top ⌝ }
-    ensures { λ r. ⌜ r ≡ top - blockRoom column (rowOf (now (s .entry)) fields) ⌝ }
-    ensures { λ r. ⌜ now (reply .exit) ≡ lays (now (reply .entry)) (columnSpans base row r column (rowOf (now (s .entry)) fields)) ⌝ }
-{
-    let found = cells::field(fields, column.property);
-    let place = top - cells::room_of(column.value.used, found);
-    lay_block(reply, s, column.value.used, found, place);
-    let offset = base + (place as u64);
-    lay_value(
-        reply,
-        column,
-        row,
-        cells::kind(found, column.property),
-        cells::content(found, offset),
-    );
-    lay_status(reply, column, row, cells::status(found));
-    lay_length(
-        reply,
-        column,
-        row,
-        cells::length_sent(found, column.property),
-    );
-    place
 }

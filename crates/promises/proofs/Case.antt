@@ -22,7 +22,8 @@ use Rattle.spans.specs.Laid.{lay, lays}
 use Rattle.cells.specs.Cell.{columnSpans}
 use Rattle.refusals.specs.Refusal.{firstCause}
 use Rattle.requests.specs.Request.{request}
-use Rattle.rows.specs.Page.{blocks, returned, rowSpans, rowsSpans, pageBytes}
+use Rattle.rows.specs.Rows.{blocks, returned, rowSpans, rowsSpans}
+use Rattle.pages.specs.Page.{pageBytes}
 use Rattle.sessions.specs.Layout.{seats}
 use Rattle.sessions.specs.Seat.{Seat}
 use Rattle.outcomes.specs.Message.{kindFrom, seatMessage}

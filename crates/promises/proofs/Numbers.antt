@@ -12,7 +12,7 @@ use Rattle.leaves.specs.Parts.{relationAt}
 use Rattle.restriction.specs.Reader.{readTree, restriction}
 use Rattle.refusals.specs.Refusal.{firstCause}
 use Rattle.requests.specs.Request.{request}
-use Rattle.rows.specs.Page.{blocks, allBlocks, returned}
+use Rattle.rows.specs.Rows.{blocks, allBlocks, returned}
 use Rattle.spans.specs.Each.{Each}
 use Rattle.promises.specs.Numbers.{Holds, facts}
 

@@ -24,11 +24,12 @@ use Rattle.sessions.specs.Seat.{Cursor}
 use Rattle.sessions.specs.Fits.{CursorFits}
 use Rattle.requests.specs.Request.{Sound}
 use Rattle.requests.specs.declared.Request.{Request}
-use Rattle.rows.specs.Page.{allBlocks, Fits, pageBytes, page, statusFor, endOfRows}
-use Rattle.rows.specs.Reads.{rowIn, rowPlace, blockPlace, Held, Reads, HeadReads}
-use Rattle.rows.proofs.Head.{held-seen}
-use Rattle.rows.proofs.ReadBack.{reads-back}
-use Rattle.rows.proofs.Reply.{page-inside, page-clear, page-zero, bytes-length}
+use Rattle.rows.specs.Rows.{allBlocks, Fits}
+use Rattle.pages.specs.Page.{pageBytes, page, statusFor, endOfRows}
+use Rattle.pages.specs.Reads.{rowIn, rowPlace, blockPlace, Held, Reads, HeadReads}
+use Rattle.pages.proofs.Head.{held-seen}
+use Rattle.pages.proofs.ReadBack.{reads-back}
+use Rattle.pages.proofs.Reply.{page-inside, page-clear, page-zero, bytes-length}
 use Rattle.fetching.specs.Fetch.{remaining, sent, rowsSent, thenLeft, fetchReply}
 use Rattle.promises.specs.Rows.{countIn, statusIn, pageNumbers, pageRows, RowsReply}
 use Rattle.promises.proofs.Served.{bytes-are, inside, greatest, sent-most, room, reply-head, count-read, status-read}

@@ -21,11 +21,12 @@ use Rattle.refusals.specs.Refusal.{firstCause}
 use Rattle.requests.specs.Request.{request, Sound}
 use Rattle.requests.specs.declared.Request.{Request}
 use Rattle.requests.proofs.Ranges.{request-sound}
-use Rattle.rows.specs.Page.{allBlocks, pageBytes, page, statusFor}
-use Rattle.rows.specs.Reads.{HeadReads}
-use Rattle.rows.proofs.Greatest.{Greatest, returned-is, returned-room}
-use Rattle.rows.proofs.Head.{head-reads}
-use Rattle.rows.proofs.Reply.{page-is}
+use Rattle.rows.specs.Rows.{allBlocks}
+use Rattle.pages.specs.Page.{pageBytes, page, statusFor}
+use Rattle.pages.specs.Reads.{HeadReads}
+use Rattle.pages.proofs.Greatest.{Greatest, returned-is, returned-room}
+use Rattle.pages.proofs.Head.{head-reads}
+use Rattle.pages.proofs.Reply.{page-is}
 use Rattle.fetching.specs.Fetch.{remaining, unbound, sent, rowsSent, thenLeft, fetchReply}
 use Rattle.fetching.proofs.Sending.{sent-left, sound-inside}
 use Rattle.outcomes.specs.Message.{handleOf, isOpen, unasked, rowsCauses, bodyCauses}

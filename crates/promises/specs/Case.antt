@@ -5,7 +5,7 @@ use Rattle.words.specs.Word.{le}
 use Rattle.checksum.proofs.Vectors.{wordsOf}
 use Rattle.spans.specs.Laid.{fourWords}
 use Rattle.restriction.proofs.Vectors.{spec, related}
-use Rattle.rows.proofs.Vectors.{caseReply}
+use Rattle.pages.proofs.Vectors.{caseReply}
 use Rattle.promises.specs.Calls.{Call, connecting, opening, messaging, Event}
 use Rattle.promises.specs.Numbers.{getRows}
 

@@ -16,8 +16,8 @@ use Rattle.restriction.proofs.Vectors.{related, nots}
 use Rattle.refusals.specs.Refusal.{firstCause}
 use Rattle.requests.specs.Request.{request}
 use Rattle.requests.specs.declared.Request.{Request}
-use Rattle.rows.specs.Page.{Fits}
-use Rattle.rows.proofs.Vectors.{caseColumns}
+use Rattle.rows.specs.Rows.{Fits}
+use Rattle.pages.proofs.Vectors.{caseColumns}
 use Rattle.sessions.specs.Seat.{Cursor, fresh}
 use Rattle.fetching.specs.Fetch.{fetchCauses, sent}
 use Rattle.outcomes.specs.Message.{unasked}

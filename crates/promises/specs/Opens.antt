@@ -12,7 +12,7 @@ use Rattle.restriction.specs.Tree.{Tree}
 use Rattle.restriction.specs.Holds.{holds}
 use Rattle.restriction.specs.Reader.{restriction}
 use Rattle.restriction.specs.Rising.{Rises}
-use Rattle.rows.specs.Reads.{rowIn}
+use Rattle.pages.specs.Reads.{rowIn}
 use Rattle.sessions.specs.Seat.{opened}
 use Rattle.steps.specs.Step.{Outcome}
 use Rattle.promises.specs.Told.{heldCursor}

@@ -16,8 +16,9 @@ use Rattle.spans.specs.Laid.{Laid, Inside, Clear, Outside}
 use Rattle.sessions.specs.Seat.{Cursor}
 use Rattle.requests.specs.Request.{request}
 use Rattle.requests.specs.declared.Request.{Request}
-use Rattle.rows.specs.Page.{Fits, pageSpans, pageBytes, endOfRows}
-use Rattle.rows.specs.Reads.{rowIn, rowPlace, blockPlace, Reads, HeadReads}
+use Rattle.rows.specs.Rows.{Fits}
+use Rattle.pages.specs.Page.{pageSpans, pageBytes, endOfRows}
+use Rattle.pages.specs.Reads.{rowIn, rowPlace, blockPlace, Reads, HeadReads}
 use Rattle.fetching.specs.Fetch.{numbered, remaining}
 use Rattle.outcomes.specs.Message.{msgOf, handleOf}
 use Rattle.steps.specs.Step.{Sources}

@@ -1,3 +1,2 @@
-pub mod Page
+pub mod Rows
 pub mod Ready
-pub mod Reads

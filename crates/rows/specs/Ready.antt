@@ -1,19 +1,17 @@
 -- What the writers of rows rely on.
 use mathlib.Core.Path.{_≡_}
-use mathlib.Core.Bool.{true}
 use mathlib.Core.List.{List, [], _∷_}
 use Prim.Native.Nat.{ℕ, _+_, _^_, _≤_, _<_}
 use lib.ListN.{length, getD}
-use Rattle.catalogue.specs.Limits.{rowsMost}
 use Rattle.catalogue.specs.Plain.{Row}
 use Rattle.catalogue.specs.Places.{RowThere, rowSeen}
 use Rattle.catalogue.specs.declared.Fields.{Fields}
 use Rattle.columns.specs.Column.{roomWords, columnsMost, columnAt, columnsOf}
-use Rattle.columns.specs.Fit.{rowMost, fit}
+use Rattle.columns.specs.Fit.{rowMost}
 use Rattle.columns.specs.declared.Column.{Column}
 use Rattle.cells.specs.Cell.{offsetWidth}
 use Rattle.cells.specs.Stands.{fieldsSeen, ColumnIn}
-use Rattle.rows.specs.Page.{blocks}
+use Rattle.rows.specs.Rows.{blocks}
 
 -- the words of at most five columns
 pub record Words (words : List ℕ) (bound : ℕ) : Type 0 where
@@ -54,17 +52,6 @@ pub record RowsReady (n : ℕ) (words : List ℕ) (bound width base from size : 
   pub given : Words words bound
   pub narrow : width ≤ rowMost
   pub columns : ColumnsIn width 0 words bound
-  pub inside : from ≤ size
-  pub ends : size ≤ n
-  pub offset : base + size < 256 ^ offsetWidth
-
--- a whole reply in a buffer of n bytes: fit bindings, no more numbers than a catalogue has rows, and "_ulClientBase + B" not
--- "above 4,294,967,295"
-pub record PageReady (n : ℕ) (words : List ℕ) (bound width count size from base : ℕ) : Type 0 where
-  pub long : length words ≡ roomWords
-  pub fits : fit width (columnsOf bound words) ≡ true
-  pub head : 32 ≤ from
-  pub few : count ≤ rowsMost
   pub inside : from ≤ size
   pub ends : size ≤ n
   pub offset : base + size < 256 ^ offsetWidth

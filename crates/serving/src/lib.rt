@@ -19,7 +19,7 @@ fn send(block: &[u32], q: Request, s: &[u8], places: &[u32], reply: &mut [u8]) -
     let end = sessions::ROWS + (block[sessions::COUNT] as usize);
     let bound = block[sessions::COLUMNS] as usize;
     let width = block[sessions::WIDTH] as usize;
-    rows::page(
+    pages::page(
         reply,
         s,
         places,

@@ -13,7 +13,7 @@ use Rattle.words.proofs.Below.{true≢false}
 use Rattle.catalogue.specs.Plain.{Row, catalogue}
 use Rattle.catalogue.specs.Places.{places, rowSeen}
 use Rattle.catalogue.proofs.Agree.{catalogue-agrees}
-use Rattle.rows.specs.Reads.{rowIn}
+use Rattle.pages.specs.Reads.{rowIn}
 use Rattle.select.specs.Noted.{Noted}
 use Rattle.select.proofs.SelectLaws as Laws
 use Rattle.sessions.specs.Layout.{seats, seatSize}

@@ -3,7 +3,7 @@ use mathlib.Core.Path.{_≡_}
 use Prim.Native.Nat.{_≤_, _-_}
 use native.Mathlib.Omega.{arith}
 use lib.ListN.{length}
-use Rattle.calls.specs.Room.{Stands}
+use Rattle.buffers.specs.Room.{Stands}
 use borrow.Author.Needs.{needs}
 use Rattle.calls.proofs.serve_chunk.Statement.{statement}
 use Rattle.calls.proofs.serve_chunk.Tie as tie

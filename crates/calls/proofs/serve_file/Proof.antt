@@ -1,7 +1,7 @@
 -- Between two reads the buffers have their lengths, and the place stands. Assumes nothing.
 use mathlib.Core.Path.{_≡_}
 use lib.ListN.{length}
-use Rattle.calls.specs.Room.{Stands}
+use Rattle.buffers.specs.Room.{Stands}
 use borrow.Author.Needs.{needs}
 use Rattle.calls.proofs.serve_file.Statement.{statement}
 use Rattle.calls.proofs.serve_file.Tie as tie

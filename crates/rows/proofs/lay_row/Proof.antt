@@ -12,7 +12,7 @@ use Rattle.columns.specs.declared.Column.{Column}
 use Rattle.spans.specs.Laid.{lays}
 use Rattle.cells.specs.Cell.{blockRoom}
 use Rattle.cells.proofs.Fields.{still-in}
-use Rattle.rows.specs.Page.{blocks, rowSpans}
+use Rattle.rows.specs.Rows.{blocks, rowSpans}
 use Rattle.rows.proofs.Found.{fields-stand, fields-row}
 use Rattle.rows.proofs.Steps.{blocks-more, blocks-none, spans-none, row-step}
 

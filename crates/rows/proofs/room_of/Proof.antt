@@ -2,7 +2,7 @@
 use borrow.Author.Needs.{needs}
 use Rattle.rows.proofs.room_of.Statement.{statement}
 use Rattle.rows.proofs.room_of.Tie as tie
-use Rattle.rows.specs.Page.{blocks}
+use Rattle.rows.specs.Rows.{blocks}
 use Rattle.columns.specs.Column.{columnsOf}
 use Rattle.catalogue.specs.Places.{RowThere, rowSeen}
 use Prim.Native.Nat.{ℕ, _+_}

@@ -10,7 +10,7 @@ use Rattle.columns.specs.Column.{columnsFrom, columnsOf}
 use Rattle.columns.specs.declared.Column.{Column}
 use Rattle.cells.specs.Cell.{blockRoom}
 use Rattle.cells.proofs.Fields.{stand-small}
-use Rattle.rows.specs.Page.{blocks}
+use Rattle.rows.specs.Rows.{blocks}
 use Rattle.rows.specs.Ready.{blockMost}
 use Rattle.rows.proofs.Found.{room-small, fields-stand, fields-row}
 use Rattle.rows.proofs.Steps.{blocks-more, blocks-none}

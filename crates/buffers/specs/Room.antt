@@ -1,0 +1,13 @@
+-- Where the program stands between two lines.
+use Prim.Native.Nat.{ℕ, _≤_}
+use Rattle.buffers.specs.declared.Place.{Place}
+
+-- how much of the output may wait before a line
+abbrev pub outFull : ℕ
+outFull = 65536
+
+-- between two lines, with a line buffer of so many bytes
+pub record Stands (line : ℕ) (p : Place) : Type 0 where
+  pub kept : p .kept ≤ line
+  pub lent : p .catalogue ≤ 32768
+  pub waiting : p .used ≤ outFull
