@@ -15,10 +15,8 @@ pub record Leaves (used : ℕ) (r : Left) : Type 0 where
   pub lent : r .catalogue ≤ 32768
   pub answered : r .used ≤ used + answerMost
 
--- the lengths of the table and of the buffers of the catalogue, of bytes, of the reply and of the output
-pub record Sized (table catalogue bytes space out : ℕ) : Type 0 where
+-- the lengths of the table and of the buffers of the catalogue and of the output
+pub record Sized (table catalogue out : ℕ) : Type 0 where
   pub words : 17200 ≤ table
   pub lent : 32768 ≤ catalogue
-  pub read : 20000 ≤ bytes
-  pub reply : 20000 ≤ space
   pub output : outSize ≤ out

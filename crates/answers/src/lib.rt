@@ -1,7 +1,7 @@
 // One call of a calls file: it is served, and the answer is laid in the output.
-ghost use Prim.Native.Nat.{_+_, _*_, _≤_};
+ghost use Prim.Native.Nat.{_+_, _*_, _/_, _≤_};
 ghost use lib.ListN.{length};
-ghost use Rattle.lexing.specs.Line.{Fits};
+ghost use Rattle.lexing.specs.Line.{bytesMost, roomMost, Fits};
 ghost use Rattle.lines.specs.Room.{plain};
 ghost use Rattle.answers.specs.Room.{answerMost, Leaves, Sized};
 use lexing::Call;
@@ -22,39 +22,68 @@ fn least(a: usize, b: usize) -> usize
 }
 
 // Serves a message, with a reply buffer that is filled first.
-fn message(
+fn reply(
     table: &mut [u32],
     catalogue: &[u8],
     seat: u32,
     bytes: &[u8],
-    reply: &mut [u8],
+    space: &mut [u8],
     out: &mut [u8],
     used: usize,
 ) -> usize
-    requires { ⌜ used + 2 * length (now reply) + plain ≤ length (now out) ⌝ }
-    ensures { λ r. ⌜ r ≤ used + 2 * length (now (reply .entry)) + plain ⌝ }
+    requires { ⌜ used + 2 * length (now space) + plain ≤ length (now out) ⌝ }
+    ensures { λ r. ⌜ r ≤ used + 2 * length (now (space .entry)) + plain ⌝ }
 {
-    wording::fill(reply);
-    let answered = server::message(table, catalogue, server::Seat(seat), bytes, reply);
+    wording::fill(space);
+    let answered = server::message(table, catalogue, server::Seat(seat), bytes, space);
     let refusal = answered.refusal;
     let told = answered.count;
-    let count = least(told as usize, reply.len());
-    lines::put_message(out, used, refusal, reply, count)
+    let count = least(told as usize, space.len());
+    lines::put_message(out, used, refusal, space, count)
 }
 
-// Serves an opening.
+// Serves the message whose digits stand in a part of the line.
+fn message(
+    table: &mut [u32],
+    catalogue: &[u8],
+    seat: u32,
+    room: usize,
+    digits: &[u8],
+    out: &mut [u8],
+    used: usize,
+) -> usize
+    requires { ⌜ (room ≤ roomMost) × (length (now digits) / 2 ≤ bytesMost) × (used + answerMost ≤ length (now out)) ⌝ }
+    ensures { λ r. ⌜ r ≤ used + answerMost ⌝ }
+{
+    let mut bytes = [0u8; 20000];
+    let mut space = [0u8; 20000];
+    let size = lines::load(digits, &mut bytes);
+    reply(
+        table,
+        catalogue,
+        seat,
+        &bytes[0..size],
+        &mut space[0..room],
+        out,
+        used,
+    )
+}
+
+// Serves the opening whose tree's digits stand in a part of the line.
 fn open(
     table: &mut [u32],
     catalogue: &[u8],
     seat: u32,
-    tree: &[u8],
+    digits: &[u8],
     out: &mut [u8],
     used: usize,
 ) -> usize
-    requires { ⌜ used + plain ≤ length (now out) ⌝ }
+    requires { ⌜ (length (now digits) / 2 ≤ bytesMost) × (used + plain ≤ length (now out)) ⌝ }
     ensures { λ r. ⌜ r ≤ used + plain ⌝ }
 {
-    let opened = server::open(table, catalogue, server::Seat(seat), tree);
+    let mut bytes = [0u8; 20000];
+    let size = lines::load(digits, &mut bytes);
+    let opened = server::open(table, catalogue, server::Seat(seat), &bytes[0..size]);
     let refusal = opened.refusal;
     let handle = opened.handle;
     let number = handle.0;
@@ -69,12 +98,10 @@ pub fn serve(
     table: &mut [u32],
     catalogue: &mut [u8],
     lent: usize,
-    bytes: &mut [u8],
-    space: &mut [u8],
     out: &mut [u8],
     used: usize,
 ) -> Left
-    requires { ⌜ Fits (length (now line)) call × (lent ≤ 32768) × (used + answerMost ≤ length (now out)) × Sized (length (now table)) (length (now catalogue)) (length (now bytes)) (length (now space)) (length (now out)) ⌝ }
+    requires { ⌜ Fits (length (now line)) call × (lent ≤ 32768) × (used + answerMost ≤ length (now out)) × Sized (length (now table)) (length (now catalogue)) (length (now out)) ⌝ }
     ensures { λ r. ⌜ Leaves used r ⌝ }
 {
     match call {
@@ -90,7 +117,7 @@ pub fn serve(
             }
         }
         Call::Catalogue(first, last) => {
-            let size = lines::load(line, first, last, catalogue);
+            let size = lines::load(&line[first..last], catalogue);
             Left {
                 catalogue: size,
                 used,
@@ -105,22 +132,26 @@ pub fn serve(
             }
         }
         Call::Open(seat, first, last) => {
-            let size = lines::load(line, first, last, bytes);
-            let end = open(table, &catalogue[0..lent], seat, &bytes[0..size], out, used);
+            let end = open(
+                table,
+                &catalogue[0..lent],
+                seat,
+                &line[first..last],
+                out,
+                used,
+            );
             Left {
                 catalogue: lent,
                 used: end,
             }
         }
         Call::Message(seat, room, first, last) => {
-            let size = lines::load(line, first, last, bytes);
-            let width = room as usize;
             let end = message(
                 table,
                 &catalogue[0..lent],
                 seat,
-                &bytes[0..size],
-                &mut space[0..width],
+                room as usize,
+                &line[first..last],
                 out,
                 used,
             );

@@ -13,11 +13,9 @@ fn serve(
     place: Place,
     table: &mut [u32],
     catalogue: &mut [u8],
-    bytes: &mut [u8],
-    space: &mut [u8],
     out: &mut [u8],
 ) -> Place
-    requires { ⌜ Stands (length (now line)) place × Sized (length (now table)) (length (now catalogue)) (length (now bytes)) (length (now space)) (length (now out)) ⌝ }
+    requires { ⌜ Stands (length (now line)) place × Sized (length (now table)) (length (now catalogue)) (length (now out)) ⌝ }
     ensures { λ r. ⌜ Stands (length (now (line .entry))) r ⌝ }
 {
     let kept = place.kept;
@@ -31,8 +29,6 @@ fn serve(
         table,
         catalogue,
         place.catalogue,
-        bytes,
-        space,
         out,
         place.used,
     );
@@ -55,11 +51,9 @@ fn serve_chunk(
     line: &mut [u8],
     table: &mut [u32],
     catalogue: &mut [u8],
-    bytes: &mut [u8],
-    space: &mut [u8],
     out: &mut [u8],
 ) -> Place
-    requires { ⌜ Stands (length (now line)) place × Sized (length (now table)) (length (now catalogue)) (length (now bytes)) (length (now space)) (length (now out)) ⌝ }
+    requires { ⌜ Stands (length (now line)) place × Sized (length (now table)) (length (now catalogue)) (length (now out)) ⌝ }
     ensures { λ r. ⌜ Stands (length (now (line .entry))) r ⌝ }
 {
     let mut here = place;
@@ -68,7 +62,7 @@ fn serve_chunk(
         let end = runs::before_feed(chunk, at);
         here = buffers::keep(line, here, &chunk[at..end]);
         if end < chunk.len() {
-            here = serve(line, here, table, catalogue, bytes, space, out);
+            here = serve(line, here, table, catalogue, out);
             at = end + 1;
         } else {
             at = end;
@@ -83,17 +77,15 @@ fn serve_last(
     place: Place,
     table: &mut [u32],
     catalogue: &mut [u8],
-    bytes: &mut [u8],
-    space: &mut [u8],
     out: &mut [u8],
 ) -> Place
-    requires { ⌜ Stands (length (now line)) place × Sized (length (now table)) (length (now catalogue)) (length (now bytes)) (length (now space)) (length (now out)) ⌝ }
+    requires { ⌜ Stands (length (now line)) place × Sized (length (now table)) (length (now catalogue)) (length (now out)) ⌝ }
     ensures { λ r. ⌜ Stands (length (now (line .entry))) r ⌝ }
 {
     if place.kept == 0 {
         return place;
     }
-    serve(line, place, table, catalogue, bytes, space, out)
+    serve(line, place, table, catalogue, out)
 }
 
 // Reads once and serves the lines that end there.
@@ -105,11 +97,9 @@ fn turn(
     line: &mut [u8],
     table: &mut [u32],
     catalogue: &mut [u8],
-    bytes: &mut [u8],
-    space: &mut [u8],
     out: &mut [u8],
 ) -> Place
-    requires { ⌜ Stands (length (now line)) place × Sized (length (now table)) (length (now catalogue)) (length (now bytes)) (length (now space)) (length (now out)) ⌝ }
+    requires { ⌜ Stands (length (now line)) place × Sized (length (now table)) (length (now catalogue)) (length (now out)) ⌝ }
     ensures { λ r. ⌜ Stands (length (now (line .entry))) r ⌝ }
 {
     let count = buffers::read_some(fd, path, chunk);
@@ -123,16 +113,7 @@ fn turn(
             ended: true,
         };
     }
-    serve_chunk(
-        &chunk[0..count],
-        place,
-        line,
-        table,
-        catalogue,
-        bytes,
-        space,
-        out,
-    )
+    serve_chunk(&chunk[0..count], place, line, table, catalogue, out)
 }
 
 // One turn fewer, and none where the file has ended.
@@ -155,11 +136,9 @@ fn serve_file(
     line: &mut [u8],
     table: &mut [u32],
     catalogue: &mut [u8],
-    bytes: &mut [u8],
-    space: &mut [u8],
     out: &mut [u8],
 )
-    requires { ⌜ Sized (length (now table)) (length (now catalogue)) (length (now bytes)) (length (now space)) (length (now out)) ⌝ }
+    requires { ⌜ Sized (length (now table)) (length (now catalogue)) (length (now out)) ⌝ }
 {
     let mut place = Place {
         number: 1,
@@ -171,21 +150,10 @@ fn serve_file(
     };
     let mut turns = u64::MAX;
     while turns > 0 {
-        place = turn(
-            fd,
-            path,
-            chunk,
-            place,
-            line,
-            table,
-            catalogue,
-            bytes,
-            space,
-            out,
-        );
+        place = turn(fd, path, chunk, place, line, table, catalogue, out);
         turns = left(turns, place.ended);
     }
-    let last = serve_last(line, place, table, catalogue, bytes, space, out);
+    let last = serve_last(line, place, table, catalogue, out);
     buffers::written(out, last.used, 0);
 }
 
@@ -193,8 +161,6 @@ fn serve_file(
 pub fn replay(fd: i32, path: &[u8]) {
     let mut table = [0u32; 17200];
     let mut catalogue = [0u8; 32768];
-    let mut bytes = [0u8; 20000];
-    let mut space = [0u8; 20000];
     let mut line = [0u8; 131072];
     let mut out = [0u8; 131072];
     let mut chunk = [0u8; 65536];
@@ -205,8 +171,6 @@ pub fn replay(fd: i32, path: &[u8]) {
         &mut line,
         &mut table,
         &mut catalogue,
-        &mut bytes,
-        &mut space,
         &mut out,
     );
 }

@@ -91,11 +91,10 @@ pub fn put_message(out: &mut [u8], used: usize, refusal: u32, reply: &[u8], coun
 }
 
 // The bytes that a part of the line spells. Answers how many they are.
-pub fn load(line: &[u8], first: usize, last: usize, into: &mut [u8]) -> usize
-    requires { ⌜ (first ≤ last) × (last ≤ length (now line)) × ((last - first) / 2 ≤ length (now into)) ⌝ }
-    ensures { λ r. ⌜ r ≡ (last - first) / 2 ⌝ }
+pub fn load(digits: &[u8], into: &mut [u8]) -> usize
+    requires { ⌜ length (now digits) / 2 ≤ length (now into) ⌝ }
+    ensures { λ r. ⌜ r ≡ length (now (digits .entry)) / 2 ⌝ }
 {
-    let digits = &line[first..last];
     digits::hex_bytes(digits, into);
     digits.len() / 2
 }

@@ -9,12 +9,12 @@ use Rattle.calls.proofs.serve_chunk.Statement.{statement}
 use Rattle.calls.proofs.serve_chunk.Tie as tie
 
 abbrev Inv-loop : tie.InvT-loop
-Inv-loop chunk line₀ table₀ catalogue₀ bytes₀ space₀ out₀ here₀ at₀ line table catalogue bytes space out here at =
+Inv-loop chunk line₀ table₀ catalogue₀ out₀ here₀ at₀ line table catalogue out here at =
     (at ≤ length chunk) × Stands (length line) here × (length line ≡ length line₀) × (length table ≡ length table₀) × (length catalogue ≡ length catalogue₀)
-    × (length bytes ≡ length bytes₀) × (length space ≡ length space₀) × (length out ≡ length out₀)
+    × (length out ≡ length out₀)
 
 abbrev μ-loop : tie.MeasureT-loop
-μ-loop chunk line₀ table₀ catalogue₀ bytes₀ space₀ out₀ here₀ at₀ line table catalogue bytes space out here at =
+μ-loop chunk line₀ table₀ catalogue₀ out₀ here₀ at₀ line table catalogue out here at =
     length chunk - at
 
 loop-holds : tie.Need-loop-holds Inv-loop μ-loop
@@ -39,7 +39,7 @@ serve-requires : tie.Need-serve-requires Inv-loop μ-loop
 serve-requires c κs = search needs
 
 add-at : tie.Need-add-at Inv-loop μ-loop
-add-at c = omega (arith, c .before .before .before .before .before .before .before .before .before .before .before .before .before .before .before .before .before .if1 .taken, c .before .before .before .before .before .before .before .before .before .before .before .before .before .before .before .before .before .before .before .before .before .before .before .before .before .before .before .before .before .before .before .before .before .good)
+add-at c = omega (arith, c .before .before .before .before .before .before .before .before .before .before .before .if1 .taken, c .before .before .before .before .before .before .before .before .before .before .before .before .before .before .before .before .before .before .before .before .before .before .before .before .before .good)
 
 loop-less : tie.Need-loop-less Inv-loop μ-loop
 loop-less c = search needs
@@ -64,12 +64,6 @@ same-length-3 c = search needs
 
 same-length-4 : tie.Need-same-length-4 Inv-loop μ-loop
 same-length-4 c = search needs
-
-same-length-5 : tie.Need-same-length-5 Inv-loop μ-loop
-same-length-5 c = search needs
-
-same-length-6 : tie.Need-same-length-6 Inv-loop μ-loop
-same-length-6 c = search needs
 
 returns : tie.Need-returns Inv-loop μ-loop
 returns c = search needs
@@ -96,6 +90,4 @@ serve-chunk-spec =
     same-length-2
     same-length-3
     same-length-4
-    same-length-5
-    same-length-6
     returns)

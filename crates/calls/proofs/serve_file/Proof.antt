@@ -7,12 +7,12 @@ use Rattle.calls.proofs.serve_file.Statement.{statement}
 use Rattle.calls.proofs.serve_file.Tie as tie
 
 abbrev Inv-loop : tie.InvT-loop
-Inv-loop fd path chunk₀ line₀ table₀ catalogue₀ bytes₀ space₀ out₀ place₀ turns₀ chunk line table catalogue bytes space out place turns =
+Inv-loop fd path chunk₀ line₀ table₀ catalogue₀ out₀ place₀ turns₀ chunk line table catalogue out place turns =
     Stands (length line) place × (length chunk ≡ length chunk₀) × (length line ≡ length line₀) × (length table ≡ length table₀) × (length catalogue ≡ length catalogue₀)
-    × (length bytes ≡ length bytes₀) × (length space ≡ length space₀) × (length out ≡ length out₀)
+    × (length out ≡ length out₀)
 
 abbrev μ-loop : tie.MeasureT-loop
-μ-loop fd path chunk₀ line₀ table₀ catalogue₀ bytes₀ space₀ out₀ place₀ turns₀ chunk line table catalogue bytes space out place turns =
+μ-loop fd path chunk₀ line₀ table₀ catalogue₀ out₀ place₀ turns₀ chunk line table catalogue out place turns =
     turns
 
 loop-holds : tie.Need-loop-holds Inv-loop μ-loop
@@ -51,12 +51,6 @@ same-length-4 c = search needs
 same-length-5 : tie.Need-same-length-5 Inv-loop μ-loop
 same-length-5 c = search needs
 
-same-length-6 : tie.Need-same-length-6 Inv-loop μ-loop
-same-length-6 c = search needs
-
-same-length-7 : tie.Need-same-length-7 Inv-loop μ-loop
-same-length-7 c = search needs
-
 returns : tie.Need-returns Inv-loop μ-loop
 returns c = search needs
 
@@ -78,6 +72,4 @@ serve-file-spec =
     same-length-3
     same-length-4
     same-length-5
-    same-length-6
-    same-length-7
     returns)
