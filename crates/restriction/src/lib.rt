@@ -36,7 +36,7 @@ fn leaf_node(kind: u32, s: &[u8], place: usize, nodes: u32) -> NodeRead
     ensures { λ r. ⌜ r ≡ nodeAnswer (leafRead kind nodes place (now (s .entry))) ⌝ }
     ensures { λ r. ⌜ nodeUsed r ≤ length (now (s .entry)) ⌝ }
 {
-    let LeafAt::LeafTo(_, used) = leaves::read_leaf(kind, s, place) else {
+    let LeafAt::LeafTo(_, used) = leafreader::read_leaf(kind, s, place) else {
         return NodeRead::NoNode;
     };
     NodeRead::Node(used, nodes)
