@@ -41,7 +41,7 @@ fn read_columns(m: &[u8], count: u32, words: &mut [u32]) -> bool
         let ColumnRead::At(column, next) = wire::column_on(m, place) else {
             return false;
         };
-        columns::keep(words, k, column);
+        records::keep(words, k, column);
         at = next;
         k += 1;
         left -= 1;
@@ -67,7 +67,7 @@ pub fn read(m: &[u8], words: &mut [u32]) -> BindingsRead
     requires { ⌜ length (now words) ≡ roomWords ⌝ }
     ensures { λ r. ⌜ Told (now (m .entry)) r (now (words .exit)) ⌝ }
 {
-    columns::clear(words);
+    records::clear(words);
     if m.len() < COLUMNS_AT {
         return refused();
     }
@@ -77,7 +77,7 @@ pub fn read(m: &[u8], words: &mut [u32]) -> BindingsRead
     }
     let count = words::word(m, COUNT_AT);
     if !read_columns(m, count, words) {
-        columns::clear(words);
+        records::clear(words);
         return refused();
     }
     let handle = words::word(m, HANDLE_AT);

@@ -1,8 +1,5 @@
 // The bindings of a cursor: which columns a row has, and where in the row each stands.
 ghost use mathlib.Core.Path.{_≡_};
-ghost use Prim.Native.Nat.{_+_, _<_};
-ghost use lib.ListN.{length};
-ghost use Rattle.columns.specs.Column.{roomWords, noWords, kept};
 ghost use Rattle.columns.specs.Property.{within, numberType, numberSize, cellSize};
 
 // Where a column's value stands in a row: whether it is used, its place and its size.
@@ -95,36 +92,4 @@ pub fn cell_size(property: u32, vtype: u32) -> u32
         return 0;
     }
     0
-}
-
-// Clears the room for five columns.
-pub fn clear(words: &mut [u32])
-    requires { ⌜ length (now words) ≡ roomWords ⌝ }
-    ensures { λ _. ⌜ now (words .exit) ≡ noWords ⌝ }
-{
-    let mut i = 0;
-    while i < words.len() {
-        words[i] = 0;
-        i += 1;
-    }
-}
-
-// Keeps a column as the k-th record, where there is room for it.
-pub fn keep(words: &mut [u32], k: usize, c: Column)
-    requires { ⌜ length (now words) ≡ roomWords ⌝ }
-    ensures { λ _. ⌜ now (words .exit) ≡ kept (now (words .entry)) k c ⌝ }
-{
-    if (COLUMNS_MOST as usize) <= k {
-        return;
-    }
-    let at = COLUMN_WORDS * k;
-    words[at] = c.property;
-    words[at + 1] = c.vtype;
-    words[at + 2] = c.value.used;
-    words[at + 3] = c.value.offset;
-    words[at + 4] = c.value.size;
-    words[at + 5] = c.status.used;
-    words[at + 6] = c.status.offset;
-    words[at + 7] = c.length.used;
-    words[at + 8] = c.length.offset;
 }

@@ -25,7 +25,7 @@ fn none_zero(units: &[u8]) -> bool
 fn text_end(s: &[u8], at: usize) -> usize
     ensures { λ r. ⌜ r ≡ textEnd (textAt (now (s .entry)) at) ⌝ }
 {
-    let Reading::Number(size, start) = numbers::read(s, at, catalogue::SIZE_MOST) else {
+    let Reading::Number(size, start) = numberreader::read(s, at, catalogue::SIZE_MOST) else {
         return 0;
     };
     let end = catalogue::units_end(size as usize, start);
@@ -42,13 +42,13 @@ fn text_end(s: &[u8], at: usize) -> usize
 pub fn row_end(s: &[u8], at: usize) -> usize
     ensures { λ r. ⌜ r ≡ rowEnd (rowAt (now (s .entry)) at) ⌝ }
 {
-    let Reading::Number(_, at1) = numbers::read(s, at, catalogue::KEY_MOST) else {
+    let Reading::Number(_, at1) = numberreader::read(s, at, catalogue::KEY_MOST) else {
         return 0;
     };
-    let Reading::Number(_, at2) = numbers::read(s, at1, catalogue::NUMBER_MOST) else {
+    let Reading::Number(_, at2) = numberreader::read(s, at1, catalogue::NUMBER_MOST) else {
         return 0;
     };
-    let Reading::Number(_, at3) = numbers::read(s, at2, catalogue::NUMBER_MOST) else {
+    let Reading::Number(_, at3) = numberreader::read(s, at2, catalogue::NUMBER_MOST) else {
         return 0;
     };
     let at4 = text_end(s, at3);

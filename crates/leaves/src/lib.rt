@@ -1,38 +1,14 @@
-// The leaves of a restriction tree: reading one from bytes.
+// The leaves of a restriction tree: what one is made of, and the padding and the property of one in bytes.
 ghost use mathlib.Core.Path.{_≡_};
-ghost use Prim.Native.Nat.{_+_, _*_, _^_, _≤_, _<_};
+ghost use Prim.Native.Nat.{_+_, _≤_};
 ghost use lib.Dec.{leb};
 ghost use lib.ListN.{length};
 ghost use Rattle.words.specs.Below.{both};
 ghost use Rattle.leaves.specs.Padding.{padding, zeros};
 ghost use Rattle.leaves.specs.Property.{isSet, propertySize, propertyAt};
-ghost use Rattle.leaves.specs.Parts.{phraseAt, contentAt, relationAt, leafAt};
-
-const PHRASE_MOST: u32 = 64;
-
-// The kinds of a leaf.
-const CONTENT: u32 = 4;
-
-const PROPERTY: u32 = 5;
-
-// Properties: the first three are numbers, the others texts.
-const KEY: u32 = 2;
-
-const LANGUAGE: u32 = 3;
-
-const DEFAULT: u32 = 4;
-
-const LABEL: u32 = 5;
-
-const NOTE: u32 = 6;
 
 // The ulKind of a numbered property.
 const NUMBERED: u32 = 1;
-
-// The type of a number in a property leaf, and the bytes that such a leaf takes.
-const NUMBER_TYPE: u32 = 0x0013;
-
-const RELATION_SIZE: usize = 44;
 
 // A content leaf: its property, where its phrase's units begin and how many they are, and its method.
 pub struct Content {
@@ -105,7 +81,7 @@ fn is_set(s: &[u8], at: usize) -> bool
 }
 
 // The number of the property that stands at an index, or 0 where it is not one of ours.
-fn property(s: &[u8], at: usize) -> u32
+pub fn property(s: &[u8], at: usize) -> u32
     requires { ⌜ at + propertySize ≤ length (now s) ⌝ }
     ensures { λ r. ⌜ r ≡ propertyAt (now (s .entry)) at ⌝ }
 {
@@ -126,100 +102,8 @@ pub fn both(a: bool, b: bool) -> bool
 }
 
 // Whether a number lies from one to another.
-fn within(low: u32, x: u32, high: u32) -> bool
+pub fn within(low: u32, x: u32, high: u32) -> bool
     ensures { λ r. ⌜ r ≡ both (leb low x) (leb x high) ⌝ }
 {
     both(low <= x, x <= high)
-}
-
-// The phrase that stands at an index, with the padding on both sides of it.
-fn read_phrase(s: &[u8], place: usize, at: usize) -> PhraseAt
-    requires { ⌜ (place < 2 ^ 62) × (at ≤ 2 ^ 61) ⌝ }
-    ensures { λ r. ⌜ r ≡ phraseAt (now (s .entry)) place at ⌝ }
-{
-    let before = padding(place + at);
-    let size = at + before;
-    let start = size + 4;
-    if s.len() < start {
-        return PhraseAt::NoPhrase;
-    }
-    let units = words::word(s, size);
-    let count = units as usize;
-    let end = start + 2 * count;
-    let after = padding(place + end);
-    let next = end + after;
-    if s.len() < next {
-        return PhraseAt::NoPhrase;
-    }
-    let clear = both(zeros(s, at, before), zeros(s, end, after));
-    if both(within(1, units, PHRASE_MOST), clear) {
-        return PhraseAt::PhraseTo(start, count, next);
-    }
-    PhraseAt::NoPhrase
-}
-
-// A content leaf.
-fn read_content(s: &[u8], place: usize) -> LeafAt
-    requires { ⌜ place < 2 ^ 62 ⌝ }
-    ensures { λ r. ⌜ r ≡ contentAt (now (s .entry)) place ⌝ }
-{
-    let PhraseAt::PhraseTo(start, count, locale) = read_phrase(s, place, 32) else {
-        return LeafAt::NoLeaf;
-    };
-    let used = locale + 8;
-    if s.len() < used {
-        return LeafAt::NoLeaf;
-    }
-    let property = property(s, 8);
-    let method = words::word(s, locale + 4);
-    if both(within(LABEL, property, NOTE), method <= 1) {
-        return LeafAt::LeafTo(
-            Parts::OfContent(Content {
-                property,
-                start,
-                count,
-                method,
-            }),
-            used,
-        );
-    }
-    LeafAt::NoLeaf
-}
-
-// A property leaf.
-fn read_relation(s: &[u8]) -> LeafAt
-    ensures { λ r. ⌜ r ≡ relationAt (now (s .entry)) ⌝ }
-{
-    if s.len() < RELATION_SIZE {
-        return LeafAt::NoLeaf;
-    }
-    let relop = words::word(s, 8);
-    let property = property(s, 12);
-    let typed = both(words::half(s, 36) == NUMBER_TYPE, words::half(s, 38) == 0);
-    let value = words::word(s, 40) as u64;
-    if both(both(relop <= 5, within(KEY, property, DEFAULT)), typed) {
-        return LeafAt::LeafTo(
-            Parts::OfRelation(Relation {
-                relop,
-                property,
-                value,
-            }),
-            RELATION_SIZE,
-        );
-    }
-    LeafAt::NoLeaf
-}
-
-// The leaf of a kind.
-pub fn read_leaf(kind: u32, s: &[u8], place: usize) -> LeafAt
-    requires { ⌜ place < 2 ^ 62 ⌝ }
-    ensures { λ r. ⌜ r ≡ leafAt kind (now (s .entry)) place ⌝ }
-{
-    if kind == CONTENT {
-        return read_content(s, place);
-    }
-    if kind == PROPERTY {
-        return read_relation(s);
-    }
-    LeafAt::NoLeaf
 }

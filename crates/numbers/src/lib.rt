@@ -3,7 +3,7 @@ ghost use mathlib.Core.Path.{_≡_};
 ghost use Prim.Native.Nat.{_+_, _<_};
 ghost use lib.ListN.{length, drop};
 ghost use Rattle.numbers.specs.Groups.{groups, further, within};
-ghost use Rattle.numbers.specs.Reading.{placed, readingAt};
+ghost use Rattle.numbers.specs.Reading.{placed};
 
 // A number with the place after it.
 pub enum Reading {
@@ -11,26 +11,10 @@ pub enum Reading {
     Malformed,
 }
 
-// The number that begins at a place, if it is well formed and at most the limit.
-pub fn read(s: &[u8], at: usize, limit: u64) -> Reading
-    ensures { λ r. ⌜ r ≡ readingAt limit (now (s .entry)) at ⌝ }
-{
-    if s.len() <= at {
-        return Reading::Malformed;
-    }
-    let first = s[at] as u64;
-    if first < 128 {
-        if limit < first {
-            return Reading::Malformed;
-        }
-        return Reading::Number(first, at + 1);
-    }
-    read_further(s, at, first - 128, limit)
-}
-
-// The same where the group at the place has its top bit set, and holds `low` beside it. What the groups to come may hold at
-// most is `room`, so neither the value nor the weight can pass the limit.
-fn read_further(s: &[u8], at: usize, low: u64, limit: u64) -> Reading
+// The number that begins at a place, if it is well formed and at most the limit, where the group there has its top bit set
+// and holds `low` beside it. What the groups to come may hold at most is `room`, so neither the value nor the weight can pass
+// the limit.
+pub fn read_further(s: &[u8], at: usize, low: u64, limit: u64) -> Reading
     requires { ⌜ at < length (now s) ⌝ }
     ensures { λ r. ⌜ r ≡ placed at (within limit (further low (groups (drop (at + 1) (now (s .entry)))))) ⌝ }
 {

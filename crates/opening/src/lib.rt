@@ -50,7 +50,7 @@ pub fn judge(block: &[u32], tree: &[u8]) -> Opened
             handle: 0,
         };
     }
-    if !restriction::well_formed(tree) {
+    if !trees::well_formed(tree) {
         return Opened {
             refusal: 16,
             handle: 0,

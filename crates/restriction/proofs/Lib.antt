@@ -1,5 +1,4 @@
 pub mod TreeLaws
-pub mod WholeLaws
 pub mod Induction
 pub mod Rising
 pub mod TreeFacts

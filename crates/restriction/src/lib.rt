@@ -1,16 +1,10 @@
-// The restriction tree: whether bytes hold one.
+// The nodes of a restriction tree: reading one, with its children, from bytes.
 ghost use mathlib.Core.Path.{_≡_};
 ghost use Prim.Native.Nat.{_+_, _^_, _≤_, _<_};
 ghost use lib.ListN.{length};
-ghost use Rattle.restriction.specs.Reader.{leafRead, branchRead, readTree, readList, isBranch, restriction};
-ghost use Rattle.restriction.specs.Answer.{nodeAnswer, nodeUsed, listAnswer, listUsed, notAnswer, branchAnswer, moreAnswer, isTree};
+ghost use Rattle.restriction.specs.Reader.{leafRead, branchRead, readTree, readList, isBranch};
+ghost use Rattle.restriction.specs.Answer.{nodeAnswer, nodeUsed, listAnswer, listUsed, notAnswer, branchAnswer, moreAnswer};
 use leaves::LeafAt;
-
-const BYTES_MOST: usize = 4096;
-
-const NODES_MOST: u32 = 64;
-
-const LEVELS_MOST: u32 = 8;
 
 // The kinds of a node that has children.
 const AND: u32 = 1;
@@ -42,7 +36,7 @@ fn leaf_node(kind: u32, s: &[u8], place: usize, nodes: u32) -> NodeRead
     ensures { λ r. ⌜ r ≡ nodeAnswer (leafRead kind nodes place (now (s .entry))) ⌝ }
     ensures { λ r. ⌜ nodeUsed r ≤ length (now (s .entry)) ⌝ }
 {
-    let LeafAt::LeafTo(_, used) = leaves::read_leaf(kind, s, place) else {
+    let LeafAt::LeafTo(_, used) = leafreader::read_leaf(kind, s, place) else {
         return NodeRead::NoNode;
     };
     NodeRead::Node(used, nodes)
@@ -95,7 +89,7 @@ fn with_more(next: usize, more: ListRead) -> ListRead
 }
 
 // One node, whose kind decides what follows. The unread bytes are handed on to its children.
-fn node(s: &[u8], place: usize, levels: u32, nodes: u32) -> NodeRead
+pub fn node(s: &[u8], place: usize, levels: u32, nodes: u32) -> NodeRead
     requires { ⌜ place + length (now s) < 2 ^ 62 ⌝ }
     ensures { λ r. ⌜ r ≡ nodeAnswer (readTree levels nodes place (now (s .entry))) ⌝ }
     ensures { λ r. ⌜ nodeUsed r ≤ length (now (s .entry)) ⌝ }
@@ -167,17 +161,4 @@ fn children(s: &[u8], place: usize, count: u32, levels: u32, nodes: u32) -> List
     let after = place + next;
     let more = children(rest, after, count - 1, levels, left);
     with_more(next, more)
-}
-
-// Whether the bytes hold a tree.
-pub fn well_formed(bytes: &[u8]) -> bool
-    ensures { λ r. ⌜ r ≡ isTree (restriction (now (bytes .entry))) ⌝ }
-{
-    if BYTES_MOST < bytes.len() {
-        return false;
-    }
-    match node(bytes, 0, LEVELS_MOST, NODES_MOST) {
-        NodeRead::Node(used, _) => used == bytes.len(),
-        NodeRead::NoNode => false,
-    }
 }

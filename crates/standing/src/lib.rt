@@ -12,7 +12,7 @@ fn text_again(s: &[u8], at: usize) -> TextAt
     requires { ⌜ TextThere (now s) at ⌝ }
     ensures { λ r. ⌜ r ≡ textAt (now (s .entry)) at ⌝ }
 {
-    let Reading::Number(told, start) = numbers::read(s, at, catalogue::SIZE_MOST) else {
+    let Reading::Number(told, start) = numberreader::read(s, at, catalogue::SIZE_MOST) else {
         return TextAt::NoText;
     };
     let size = told as usize;
@@ -25,13 +25,13 @@ pub fn row_again(s: &[u8], at: usize) -> RowAt
     requires { ⌜ RowThere (now s) at ⌝ }
     ensures { λ r. ⌜ r ≡ rowAt (now (s .entry)) at ⌝ }
 {
-    let Reading::Number(key, at1) = numbers::read(s, at, catalogue::KEY_MOST) else {
+    let Reading::Number(key, at1) = numberreader::read(s, at, catalogue::KEY_MOST) else {
         return RowAt::NoRow;
     };
-    let Reading::Number(language, at2) = numbers::read(s, at1, catalogue::NUMBER_MOST) else {
+    let Reading::Number(language, at2) = numberreader::read(s, at1, catalogue::NUMBER_MOST) else {
         return RowAt::NoRow;
     };
-    let Reading::Number(default, at3) = numbers::read(s, at2, catalogue::NUMBER_MOST) else {
+    let Reading::Number(default, at3) = numberreader::read(s, at2, catalogue::NUMBER_MOST) else {
         return RowAt::NoRow;
     };
     let TextAt::TextTo(label, at4) = text_again(s, at3) else {

@@ -1,13 +1,13 @@
 -- The answer is by the relation, the property and the value's type. Assumes nothing.
 use borrow.Author.Needs.{needs}
-use Rattle.leaves.proofs.read_relation.Statement.{statement}
-use Rattle.leaves.proofs.read_relation.Tie as tie
+use Rattle.leafreader.proofs.read_relation.Statement.{statement}
+use Rattle.leafreader.proofs.read_relation.Tie as tie
 use mathlib.Core.Path.{sym, ap, ap₂, _∙_}
 use mathlib.Core.Bool.{true, false}
 use Prim.Native.Nat.{ℕ}
 use lib.Dec.{eqb, leb}
 use Rattle.words.specs.Below.{both}
 use Rattle.leaves.proofs.LeafLaws.{relation-short, relation-by}
 
 returns : tie.Need-returns
 returns c = relation-short (c .before .before .args .s .now) (c .if1 .taken)

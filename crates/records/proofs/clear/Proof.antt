@@ -1,6 +1,6 @@
 -- The words passed are zero and the others as they were; in the end all are passed. Assumes nothing.
-use Rattle.columns.proofs.clear.Statement.{statement}
-use Rattle.columns.proofs.clear.Tie as tie
+use Rattle.records.proofs.clear.Statement.{statement}
+use Rattle.records.proofs.clear.Tie as tie
 use borrow.Author.Needs.{needs}
 use Prim.Native.Nat.{_≤_, _-_}
 use mathlib.Core.Path.{_≡_, refl, _∙_}

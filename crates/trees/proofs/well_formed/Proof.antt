@@ -1,9 +1,9 @@
 -- The root is read with all levels and nodes left, from place 0; each way out is a law of the definition. Assumes nothing.
 use borrow.Author.Needs.{needs}
-use Rattle.restriction.proofs.well_formed.Statement.{statement}
-use Rattle.restriction.proofs.well_formed.Tie as tie
+use Rattle.trees.proofs.well_formed.Statement.{statement}
+use Rattle.trees.proofs.well_formed.Tie as tie
 use mathlib.Core.Path.{sym, _∙_}
-use Rattle.restriction.proofs.WholeLaws.{whole-long, whole-none, whole-by}
+use Rattle.trees.proofs.WholeLaws.{whole-long, whole-none, whole-by}
 
 returns : tie.Need-returns
 returns c = whole-long (c .before .before .args .bytes .now) (c .if1 .taken)

@@ -1,10 +1,10 @@
--- `numbers::read` meets its contract: the first byte decides which way reading goes, and each way is a law. Assumes nothing.
+-- `numberreader::read` meets its contract: the first byte decides which way reading goes, and each way is a law. Assumes nothing.
 use borrow.Author.Needs.{needs}
-use Rattle.numbers.proofs.read.Statement.{statement}
-use Rattle.numbers.proofs.read.Tie as tie
+use Rattle.numberreader.proofs.read.Statement.{statement}
+use Rattle.numberreader.proofs.read.Tie as tie
 use mathlib.Core.Path.{sym, _∙_}
 use native.Mathlib.Omega.{arith}
 use Rattle.numbers.proofs.Carry.{reading-end, reading-over, reading-one, reading-more}
 
 returns : tie.Need-returns
 returns c = let a = c .before .before .args in sym (reading-end (a .limit) (a .s .now) (a .at) (c .if1 .taken))

@@ -1,11 +1,11 @@
 -- Nine stores in a row put the record in its place. Assumes nothing.
 use borrow.Author.Needs.{needs}
-use Rattle.columns.proofs.keep.Statement.{statement}
-use Rattle.columns.proofs.keep.Tie as tie
+use Rattle.records.proofs.keep.Statement.{statement}
+use Rattle.records.proofs.keep.Tie as tie
 use Prim.Native.Nat.{_*_}
 use lib.ListN.{length-set}
 use borrow.Author.Tests.{lt-ltb, le-ltb}
 use Rattle.columns.proofs.Records.{nine-stores}
 use native.Mathlib.Omega.{arith}
 
 cast-if1 : tie.Need-cast-if1

@@ -1,7 +1,7 @@
 -- The tests of the kind settle which leaf is read. Assumes nothing.
 use borrow.Author.Needs.{needs}
-use Rattle.leaves.proofs.read_leaf.Statement.{statement}
-use Rattle.leaves.proofs.read_leaf.Tie as tie
+use Rattle.leafreader.proofs.read_leaf.Statement.{statement}
+use Rattle.leafreader.proofs.read_leaf.Tie as tie
 use borrow.Author.Tests.{eq-eqb, ne-eqb}
 
 read-content-requires : tie.Need-read-content-requires

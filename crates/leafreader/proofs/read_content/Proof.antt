@@ -1,13 +1,13 @@
 -- Where the phrase was read, the answer is by the property and the method. Assumes nothing.
 use borrow.Author.Needs.{needs}
-use Rattle.leaves.proofs.read_content.Statement.{statement}
-use Rattle.leaves.proofs.read_content.Tie as tie
+use Rattle.leafreader.proofs.read_content.Statement.{statement}
+use Rattle.leafreader.proofs.read_content.Tie as tie
 use mathlib.Core.Path.{sym, ap₂, _∙_, refl}
 use mathlib.Core.Bool.{true, false}
 use native.Mathlib.Omega.{arith}
 use Rattle.words.specs.Below.{both}
 use Rattle.leaves.specs.Parts.{contentAt}
 use Rattle.leaves.proofs.LeafLaws.{phrase-read, content-short, content-by}
 
 read-phrase-requires : tie.Need-read-phrase-requires
 read-phrase-requires c κs = search needs

@@ -1,11 +1,11 @@
 -- Each way that the reading can go is a law of the definition. Assumes nothing.
 use borrow.Author.Needs.{needs}
-use Rattle.leaves.proofs.read_phrase.Statement.{statement}
-use Rattle.leaves.proofs.read_phrase.Tie as tie
+use Rattle.leafreader.proofs.read_phrase.Statement.{statement}
+use Rattle.leafreader.proofs.read_phrase.Tie as tie
 use mathlib.Core.Path.{sym, ap₂, _∙_}
 use mathlib.Core.Bool.{true, false}
 use Rattle.words.specs.Below.{both}
 use Rattle.leaves.proofs.LeafLaws.{phrase-short, phrase-cut, phrase-by}
 
 add-padding : tie.Need-add-padding
 add-padding c = search needs
