@@ -35,7 +35,7 @@ fn message(
     ensures { λ r. ⌜ r ≤ used + 2 * length (now (reply .entry)) + plain ⌝ }
 {
     wording::fill(reply);
-    let answered = server::message(table, catalogue, server::Seat(seat), bytes, reply);
+    let answered = exchange::message(table, catalogue, steps::Seat(seat), bytes, reply);
     let refusal = answered.refusal;
     let told = answered.count;
     let count = least(told as usize, reply.len());
@@ -54,7 +54,7 @@ fn open(
     requires { ⌜ used + plain ≤ length (now out) ⌝ }
     ensures { λ r. ⌜ r ≤ used + plain ⌝ }
 {
-    let opened = server::open(table, catalogue, server::Seat(seat), tree);
+    let opened = querying::open(table, catalogue, steps::Seat(seat), tree);
     let refusal = opened.refusal;
     let handle = opened.handle;
     let number = handle.0;
@@ -97,7 +97,7 @@ pub fn serve(
             }
         }
         Call::Connect(seat, version) => {
-            let refusal = server::connect(table, &catalogue[0..lent], server::Seat(seat), version);
+            let refusal = connecting::connect(table, &catalogue[0..lent], steps::Seat(seat), version);
             let end = lines::put_connect(out, used, refusal);
             Left {
                 catalogue: lent,

@@ -1,7 +1,7 @@
--- `server::message` meets its contract: the judgement and the sizes pick the way, and the seat's block is lent to be answered. Assumes nothing.
+-- `exchange::message` meets its contract: the judgement and the sizes pick the way, and the seat's block is lent to be answered. Assumes nothing.
 use borrow.Author.Needs.{needs}
-use Rattle.server.proofs.message.Statement.{statement}
-use Rattle.server.proofs.message.Tie as tie
+use Rattle.exchange.proofs.message.Statement.{statement}
+use Rattle.exchange.proofs.message.Tie as tie
 use Rattle.steps.proofs.Sourcing.{noted-length}
 use lib.ListN.{length-replicate}
 use Rattle.steps.proofs.Sourcing.{sourced}

@@ -1,7 +1,7 @@
--- `server::open` meets its contract: the judgement and the seat pick the way, and the seat's block is lent to be opened. Assumes nothing.
+-- `querying::open` meets its contract: the judgement and the seat pick the way, and the seat's block is lent to be opened. Assumes nothing.
 use borrow.Author.Needs.{needs}
-use Rattle.server.proofs.open.Statement.{statement}
-use Rattle.server.proofs.open.Tie as tie
+use Rattle.querying.proofs.open.Statement.{statement}
+use Rattle.querying.proofs.open.Tie as tie
 use mathlib.Core.Path.{sym, ap, _∙_}
 use native.Mathlib.Omega.{arith}
 use Prim.Native.Nat.{ℕ, _*_}

@@ -1,7 +1,7 @@
--- `server::connect` meets its contract: the judgement and the seat's first word pick the way, and the seat's block is lent to be written. Assumes nothing.
+-- `connecting::connect` meets its contract: the judgement and the seat's first word pick the way, and the seat's block is lent to be written. Assumes nothing.
 use borrow.Author.Needs.{needs}
-use Rattle.server.proofs.connect.Statement.{statement}
-use Rattle.server.proofs.connect.Tie as tie
+use Rattle.connecting.proofs.connect.Statement.{statement}
+use Rattle.connecting.proofs.connect.Tie as tie
 use mathlib.Core.Path.{sym, _∙_, subst}
 use native.Mathlib.Omega.{arith}
 use Prim.Native.Nat.{ℕ, _*_}
