@@ -1,6 +1,6 @@
 -- A text of size 0 is absent, any other is there. Assumes nothing.
-use Rattle.cells.proofs.text_field.Statement.{statement}
-use Rattle.cells.proofs.text_field.Tie as tie
+use Rattle.lookup.proofs.text_field.Statement.{statement}
+use Rattle.lookup.proofs.text_field.Tie as tie
 use borrow.Author.Tests.{eq-eqb, ne-eqb}
 
 returns : tie.Need-returns

@@ -1,7 +1,7 @@
 -- One case for each kind of field. Assumes nothing.
 use borrow.Author.Needs.{needs}
-use Rattle.cells.proofs.kind.Statement.{statement}
-use Rattle.cells.proofs.kind.Tie as tie
+use Rattle.contents.proofs.kind.Statement.{statement}
+use Rattle.contents.proofs.kind.Tie as tie
 
 enum-told : tie.Need-enum-told
 enum-told c = search needs

@@ -1,6 +1,6 @@
 -- Nothing where the value is not used, else the size of the field's block. Assumes nothing.
-use Rattle.cells.proofs.room_of.Statement.{statement}
-use Rattle.cells.proofs.room_of.Tie as tie
+use Rattle.contents.proofs.room_of.Statement.{statement}
+use Rattle.contents.proofs.room_of.Tie as tie
 use borrow.Author.Tests.{eq-eqb, ne-eqb}
 
 returns : tie.Need-returns

@@ -1,7 +1,7 @@
 -- One case for each kind of field. Assumes nothing.
 use borrow.Author.Needs.{needs}
-use Rattle.cells.proofs.content.Statement.{statement}
-use Rattle.cells.proofs.content.Tie as tie
+use Rattle.contents.proofs.content.Statement.{statement}
+use Rattle.contents.proofs.content.Tie as tie
 
 enum-known-field : tie.Need-enum-known-field
 enum-known-field c = search needs

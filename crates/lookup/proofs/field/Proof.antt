@@ -1,7 +1,7 @@
 -- Each test picks its property's field. Assumes nothing.
 use borrow.Author.Needs.{needs}
-use Rattle.cells.proofs.field.Statement.{statement}
-use Rattle.cells.proofs.field.Tie as tie
+use Rattle.lookup.proofs.field.Statement.{statement}
+use Rattle.lookup.proofs.field.Tie as tie
 use borrow.Author.Tests.{eq-eqb, ne-eqb}
 
 returns : tie.Need-returns

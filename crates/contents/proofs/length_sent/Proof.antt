@@ -1,11 +1,11 @@
 -- A number's size, twice a text's size, or 0. Assumes nothing.
 use borrow.Author.Needs.{needs}
-use Rattle.cells.proofs.length_sent.Statement.{statement}
-use Rattle.cells.proofs.length_sent.Tie as tie
+use Rattle.contents.proofs.length_sent.Statement.{statement}
+use Rattle.contents.proofs.length_sent.Tie as tie
 use mathlib.Core.Path.{sym}
 use Prim.Native.Nat.{_≤_}
 use native.Mathlib.Omega.{arith}
 use Rattle.cells.proofs.Units.{units-double}
 
 enum-told : tie.Need-enum-told
 enum-told c = search needs

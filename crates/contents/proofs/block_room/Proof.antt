@@ -1,11 +1,11 @@
 -- The field is found, and then its room. Assumes nothing.
 use borrow.Author.Needs.{needs}
-use Rattle.cells.proofs.block_room.Statement.{statement}
-use Rattle.cells.proofs.block_room.Tie as tie
+use Rattle.contents.proofs.block_room.Statement.{statement}
+use Rattle.contents.proofs.block_room.Tie as tie
 use Rattle.cells.proofs.Column.{found-stands, found-is}
 use Rattle.cells.proofs.Fields.{field-small}
 use Rattle.cells.specs.Cell.{blockSize}
 use Rattle.cells.specs.Field.{Field}
 use Rattle.columns.specs.Fit.{isUsed}
 use Rattle.words.specs.Below.{pick}
 use mathlib.Core.Path.{_∙_, ap}

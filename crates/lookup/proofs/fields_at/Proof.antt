@@ -1,7 +1,7 @@
 -- What the reader found is what `fieldsSeen` takes. Assumes nothing.
 use borrow.Author.Needs.{needs}
-use Rattle.cells.proofs.fields_at.Statement.{statement}
-use Rattle.cells.proofs.fields_at.Tie as tie
+use Rattle.lookup.proofs.fields_at.Statement.{statement}
+use Rattle.lookup.proofs.fields_at.Tie as tie
 use mathlib.Core.Path.{sym, _∙_}
 
 row-again-requires : tie.Need-row-again-requires

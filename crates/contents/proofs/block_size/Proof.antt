@@ -1,11 +1,11 @@
 -- A text's block is two bytes for each unit and two more, which is twice its size. Assumes nothing.
 use borrow.Author.Needs.{needs}
-use Rattle.cells.proofs.block_size.Statement.{statement}
-use Rattle.cells.proofs.block_size.Tie as tie
+use Rattle.contents.proofs.block_size.Statement.{statement}
+use Rattle.contents.proofs.block_size.Tie as tie
 use mathlib.Core.Path.{sym}
 use Prim.Native.Nat.{_≤_}
 use native.Mathlib.Omega.{arith}
 use Rattle.cells.proofs.Units.{units-double}
 
 enum-told : tie.Need-enum-told
 enum-told c = search needs
