@@ -22,7 +22,7 @@ pub fn open(table: &mut [u32], catalogue: &[u8], seat: Seat, tree: &[u8]) -> Ope
     }
     let at = sessions::SEAT_SIZE * (k as usize);
     let end = at + sessions::SEAT_SIZE;
-    let opened = opening::judge(&table[at..end], tree);
+    let opened = admitting::judge(&table[at..end], tree);
     let refused = opened.refusal;
     let handle = opened.handle;
     if refused != 0 {
@@ -31,7 +31,7 @@ pub fn open(table: &mut [u32], catalogue: &[u8], seat: Seat, tree: &[u8]) -> Ope
             handle: Handle(0),
         };
     }
-    opening::open(&mut table[at..end], handle, tree, catalogue, rows, &places);
+    starting::open(&mut table[at..end], handle, tree, catalogue, rows, &places);
     Opened {
         refusal: 0,
         handle: Handle(handle),

@@ -1,11 +1,11 @@
--- `opening::fill` meets its contract: the selection is written into its part of a closed cursor's block, and two words are set. Assumes nothing.
+-- `starting::fill` meets its contract: the selection is written into its part of a closed cursor's block, and two words are set. Assumes nothing.
 use borrow.Author.Needs.{needs}
-use Rattle.opening.proofs.fill.Statement.{statement}
-use Rattle.opening.proofs.fill.Tie as tie
+use Rattle.starting.proofs.fill.Statement.{statement}
+use Rattle.starting.proofs.fill.Tie as tie
 use mathlib.Core.Path.{_∙_}
 use native.Mathlib.Omega.{arith}
 use Rattle.select.specs.Select.{selected}
 use Rattle.opening.proofs.OpenLaws.{selected-few, filled, closed-length, filled-length}
 
 sub-select : tie.Need-sub-select
 sub-select c = search needs

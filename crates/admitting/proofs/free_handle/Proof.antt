@@ -1,11 +1,11 @@
--- `opening::free_handle` meets its contract: the first handle that is not open, or none. Assumes nothing.
+-- `admitting::free_handle` meets its contract: the first handle that is not open, or none. Assumes nothing.
 use borrow.Author.Needs.{needs}
-use Rattle.opening.proofs.free_handle.Statement.{statement}
-use Rattle.opening.proofs.free_handle.Tie as tie
+use Rattle.admitting.proofs.free_handle.Statement.{statement}
+use Rattle.admitting.proofs.free_handle.Tie as tie
 use mathlib.Core.Path.{sym, _∙_}
 use borrow.Author.Tests.{not-true, not-false}
 use Rattle.sessions.specs.Seat.{seatIn}
 use Rattle.opening.proofs.OpenLaws.{free-first, free-second, free-none}
 
 is-open-requires : tie.Need-is-open-requires
 is-open-requires c κs = search needs

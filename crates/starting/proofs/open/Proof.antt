@@ -1,7 +1,7 @@
--- `opening::open` meets its contract: the cursor's part of the seat's block is lent to be filled. Assumes nothing.
+-- `starting::open` meets its contract: the cursor's part of the seat's block is lent to be filled. Assumes nothing.
 use borrow.Author.Needs.{needs}
-use Rattle.opening.proofs.open.Statement.{statement}
-use Rattle.opening.proofs.open.Tie as tie
+use Rattle.starting.proofs.open.Statement.{statement}
+use Rattle.starting.proofs.open.Tie as tie
 use mathlib.Core.Path.{ap, ap₂, _∙_}
 use Prim.Native.Nat.{ℕ}
 use mathlib.Core.List.{List}

@@ -1,10 +1,10 @@
--- `opening::judge` meets its contract: each answer is the first cause that applies, by the tests that led to it. Assumes nothing.
+-- `admitting::judge` meets its contract: each answer is the first cause that applies, by the tests that led to it. Assumes nothing.
 use borrow.Author.Needs.{needs}
-use Rattle.opening.proofs.judge.Statement.{statement}
-use Rattle.opening.proofs.judge.Tie as tie
+use Rattle.admitting.proofs.judge.Statement.{statement}
+use Rattle.admitting.proofs.judge.Tie as tie
 use mathlib.Core.Path.{sym, _∙_}
 use borrow.Author.Tests.{not-true, not-false}
 use Rattle.opening.proofs.OpenLaws.{open-gone, open-full, open-bad, open-free}
 
 shared-slice-read-if1 : tie.Need-shared-slice-read-if1
 shared-slice-read-if1 c = search needs
