@@ -35,7 +35,7 @@ fn reply(
     ensures { λ r. ⌜ r ≤ used + 2 * length (now (space .entry)) + plain ⌝ }
 {
     wording::fill(space);
-    let answered = server::message(table, catalogue, server::Seat(seat), bytes, space);
+    let answered = exchange::message(table, catalogue, steps::Seat(seat), bytes, space);
     let refusal = answered.refusal;
     let told = answered.count;
     let count = least(told as usize, space.len());
@@ -83,7 +83,7 @@ fn open(
 {
     let mut bytes = [0u8; 20000];
     let size = lines::load(digits, &mut bytes);
-    let opened = server::open(table, catalogue, server::Seat(seat), &bytes[0..size]);
+    let opened = querying::open(table, catalogue, steps::Seat(seat), &bytes[0..size]);
     let refusal = opened.refusal;
     let handle = opened.handle;
     let number = handle.0;
@@ -124,7 +124,7 @@ pub fn serve(
             }
         }
         Call::Connect(seat, version) => {
-            let refusal = server::connect(table, &catalogue[0..lent], server::Seat(seat), version);
+            let refusal = connecting::connect(table, &catalogue[0..lent], steps::Seat(seat), version);
             let end = lines::put_connect(out, used, refusal);
             Left {
                 catalogue: lent,

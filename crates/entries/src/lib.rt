@@ -23,23 +23,23 @@ pub fn lay_column(
     ensures { λ r. ⌜ r ≡ top - blockRoom column (rowOf (now (s .entry)) fields) ⌝ }
     ensures { λ r. ⌜ now (reply .exit) ≡ lays (now (reply .entry)) (columnSpans base row r column (rowOf (now (s .entry)) fields)) ⌝ }
 {
-    let found = cells::field(fields, column.property);
-    let place = top - cells::room_of(column.value.used, found);
+    let found = lookup::field(fields, column.property);
+    let place = top - contents::room_of(column.value.used, found);
     laying::lay_block(reply, s, column.value.used, found, place);
     let offset = base + (place as u64);
     laying::lay_value(
         reply,
         column,
         row,
-        cells::kind(found, column.property),
-        cells::content(found, offset),
+        contents::kind(found, column.property),
+        contents::content(found, offset),
     );
-    laying::lay_status(reply, column, row, cells::status(found));
+    laying::lay_status(reply, column, row, contents::status(found));
     laying::lay_length(
         reply,
         column,
         row,
-        cells::length_sent(found, column.property),
+        contents::length_sent(found, column.property),
     );
     place
 }

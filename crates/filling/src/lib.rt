@@ -36,7 +36,7 @@ pub fn lay_rows(
         }
         let number = numbers[sent];
         let at = rows::place_of(places, Row(number));
-        let fields = cells::fields_at(s, at);
+        let fields = lookup::fields_at(s, at);
         let need = width + rows::row_blocks(s, at, fields, words, bound);
         if top - row < need {
             return sent;

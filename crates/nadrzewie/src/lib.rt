@@ -59,7 +59,7 @@ pub extern "C" fn nadrzewie_connect(
 ) -> u32
     ensures { λ r. ⌜ Keeps (connectStep (sourcesOf (now (catalogue .entry))) (now (table .entry)) (seat .number) version) r 0 0 (now (table .exit)) [] [] ⌝ }
 {
-    server::connect(table, catalogue, server::Seat(seat.number), version)
+    connecting::connect(table, catalogue, steps::Seat(seat.number), version)
 }
 
 // Opens a query on a seat: the rows that the tree selects.
@@ -72,7 +72,7 @@ pub extern "C" fn nadrzewie_open(
 ) -> Opened
     ensures { λ r. ⌜ Keeps (openStep (sourcesOf (now (catalogue .entry))) (now (table .entry)) (seat .number) (now (tree .entry))) (r .refusal) (r .handle .number) 0 (now (table .exit)) [] [] ⌝ }
 {
-    let opened = server::open(table, catalogue, server::Seat(seat.number), tree);
+    let opened = querying::open(table, catalogue, steps::Seat(seat.number), tree);
     let refusal = opened.refusal;
     let number = opened.handle.0;
     Opened {
@@ -92,7 +92,7 @@ pub extern "C" fn nadrzewie_message(
 ) -> Answered
     ensures { λ r. ⌜ Keeps (messageStep (sourcesOf (now (catalogue .entry))) (now (table .entry)) (seat .number) (now (message .entry)) (length (now (reply .entry)))) (r .refusal) 0 (r .count) (now (table .exit)) (now (reply .entry)) (now (reply .exit)) ⌝ }
 {
-    let answered = server::message(table, catalogue, server::Seat(seat.number), message, reply);
+    let answered = exchange::message(table, catalogue, steps::Seat(seat.number), message, reply);
     let refusal = answered.refusal;
     let count = answered.count;
     Answered { refusal, count }

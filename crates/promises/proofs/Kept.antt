@@ -1,4 +1,4 @@
--- The promises as a caller of `server::connect`, `open` and `message` has them: of what the function returns and leaves in each lent slice.
+-- The promises as a caller of `connecting::connect`, `querying::open` and `exchange::message` has them: of what the function returns and leaves in each lent slice.
 -- Assumes nothing.
 use mathlib.Core.Path.{_≡_, sym, ap, _∙_}
 use mathlib.Core.List.{List, [], _++_}

@@ -17,7 +17,7 @@ seatOfCall (connecting seat version) = seat
 seatOfCall (opening seat tree) = seat
 seatOfCall (messaging seat m room) = seat
 
--- what it does: exactly what the contract of `server::connect`, `open` or `message` cites
+-- what it does: exactly what the contract of `connecting::connect`, `querying::open` or `exchange::message` cites
 abbrev pub step : Sources → List ℕ → Call → Outcome
 step src t (connecting seat version) = connectStep src t seat version
 step src t (opening seat tree) = openStep src t seat tree

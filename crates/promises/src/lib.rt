@@ -1,1 +1,1 @@
-// The promises over any calls: theorems of the definitions that the contracts of `server` cite. No code.
+// The promises over any calls: theorems of the definitions that the contracts of the calls cite. No code.

@@ -35,8 +35,8 @@ pub fn row_blocks(s: &[u8], at: usize, fields: Fields, words: &[u32], bound: usi
     let mut k = 0;
     let mut left = bound;
     while 0 < left {
-        let column = cells::column_at(words, k);
-        total += cells::block_room(column, fields);
+        let column = lookup::column_at(words, k);
+        total += contents::block_room(column, fields);
         k += 1;
         left -= 1;
     }
@@ -56,7 +56,7 @@ pub fn room_of(
     ensures { λ r. ⌜ r ≡ width + blocks (columnsOf bound (now (words .entry))) (rowSeen (now (s .entry)) (getD (now (places .entry)) (row .0) 0)) ⌝ }
 {
     let at = place_of(places, row);
-    let fields = cells::fields_at(s, at);
+    let fields = lookup::fields_at(s, at);
     width + row_blocks(s, at, fields, words, bound)
 }
 
@@ -80,7 +80,7 @@ pub fn lay_row(
     let mut k = 0;
     let mut left = bound;
     while 0 < left {
-        let column = cells::column_at(words, k);
+        let column = lookup::column_at(words, k);
         place = entries::lay_column(reply, s, fields, column, base, row, place);
         k += 1;
         left -= 1;
