@@ -124,7 +124,12 @@ pub fn serve(
             }
         }
         Call::Connect(seat, version) => {
-            let refusal = connecting::connect(table, &catalogue[0..lent], steps::Seat(seat), version);
+            let refusal = connecting::connect(
+                table,
+                &catalogue[0..lent],
+                steps::Seat(seat),
+                version,
+            );
             let end = lines::put_connect(out, used, refusal);
             Left {
                 catalogue: lent,

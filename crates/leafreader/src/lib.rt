@@ -96,7 +96,10 @@ fn read_relation(s: &[u8]) -> LeafAt
     let property = leaves::property(s, 12);
     let typed = leaves::both(words::half(s, 36) == NUMBER_TYPE, words::half(s, 38) == 0);
     let value = words::word(s, 40) as u64;
-    if leaves::both(leaves::both(relop <= 5, leaves::within(KEY, property, DEFAULT)), typed) {
+    if leaves::both(
+        leaves::both(relop <= 5, leaves::within(KEY, property, DEFAULT)),
+        typed,
+    ) {
         return LeafAt::LeafTo(
             Parts::OfRelation(Relation {
                 relop,
