@@ -7,14 +7,13 @@ use lexing::Call;
 use lexing::Reason;
 
 // Where the program stands: the number of the present line, how many of its bytes are kept and whether there were more, the
-// length of the lent catalogue, how much of the output waits to be written, and whether the file has ended.
+// length of the lent catalogue, and how much of the output waits to be written.
 pub struct Place {
     pub number: u64,
     pub kept: usize,
     pub cut: bool,
     pub catalogue: usize,
     pub used: usize,
-    pub ended: bool,
 }
 
 // Keeps the bytes of a part of a line, as far as there is room.
@@ -32,7 +31,6 @@ pub fn keep(line: &mut [u8], place: Place, part: &[u8]) -> Place
             cut: true,
             catalogue: place.catalogue,
             used: place.used,
-            ended: false,
         };
     }
     spans::lay_bytes(line, kept, part);
@@ -42,7 +40,6 @@ pub fn keep(line: &mut [u8], place: Place, part: &[u8]) -> Place
         cut: place.cut,
         catalogue: place.catalogue,
         used: place.used,
-        ended: false,
     }
 }
 

@@ -1,5 +1,4 @@
 // A file of recorded calls is read in chunks, each call is served, and the answers are written by the buffer.
-ghost use Prim.Native.Nat.{_<_};
 ghost use lib.ListN.{length};
 ghost use Rattle.answers.specs.Room.{Sized};
 ghost use Rattle.buffers.specs.Room.{Stands};
@@ -40,7 +39,6 @@ fn serve(
         cut: false,
         catalogue: lent,
         used,
-        ended: false,
     }
 }
 
@@ -88,45 +86,6 @@ fn serve_last(
     serve(line, place, table, catalogue, out)
 }
 
-// Reads once and serves the lines that end there.
-fn turn(
-    fd: i32,
-    path: &[u8],
-    chunk: &mut [u8],
-    place: Place,
-    line: &mut [u8],
-    table: &mut [u32],
-    catalogue: &mut [u8],
-    out: &mut [u8],
-) -> Place
-    requires { ⌜ Stands (length (now line)) place × Sized (length (now table)) (length (now catalogue)) (length (now out)) ⌝ }
-    ensures { λ r. ⌜ Stands (length (now (line .entry))) r ⌝ }
-{
-    let count = buffers::read_some(fd, path, chunk);
-    if count == 0 {
-        return Place {
-            number: place.number,
-            kept: place.kept,
-            cut: place.cut,
-            catalogue: place.catalogue,
-            used: place.used,
-            ended: true,
-        };
-    }
-    serve_chunk(&chunk[0..count], place, line, table, catalogue, out)
-}
-
-// One turn fewer, and none where the file has ended.
-fn left(turns: u64, ended: bool) -> u64
-    requires { ⌜ 0 < turns ⌝ }
-    ensures { λ r. ⌜ r < turns ⌝ }
-{
-    if ended {
-        return 0;
-    }
-    turns - 1
-}
-
 // Serves all lines of an open file. A proved loop has to end, and nothing says that a file does: so the loop counts its turns
 // down, from a number that no run uses up.
 fn serve_file(
@@ -146,12 +105,16 @@ fn serve_file(
         cut: false,
         catalogue: 0,
         used: 0,
-        ended: false,
     };
     let mut turns = u64::MAX;
     while turns > 0 {
-        place = turn(fd, path, chunk, place, line, table, catalogue, out);
-        turns = left(turns, place.ended);
+        let count = buffers::read_some(fd, path, chunk);
+        if count == 0 {
+            turns = 0;
+        } else {
+            place = serve_chunk(&chunk[0..count], place, line, table, catalogue, out);
+            turns -= 1;
+        }
     }
     let last = serve_last(line, place, table, catalogue, out);
     buffers::written(out, last.used, 0);

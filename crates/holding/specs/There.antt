@@ -13,6 +13,7 @@ use Rattle.restriction.specs.Holds.{holds}
 use Rattle.restriction.specs.Reader.{TreeRead, Read, branchRead, readTree}
 use Rattle.holding.specs.Told.{told}
 
+-- a leaf of a kind is read at a place
 pub record LeafThere (kind : ℕ) (s : List ℕ) (at : ℕ) : Type 0 where
   pub short : length s ≤ bytesMost
   pub parts : Parts

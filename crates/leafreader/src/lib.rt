@@ -18,8 +18,6 @@ const PROPERTY: u32 = 5;
 // Properties: the first three are numbers, the others texts.
 const KEY: u32 = 2;
 
-const LANGUAGE: u32 = 3;
-
 const DEFAULT: u32 = 4;
 
 const LABEL: u32 = 5;

@@ -18,17 +18,35 @@ abbrev μ-loop : tie.MeasureT-loop
 loop-holds : tie.Need-loop-holds Inv-loop μ-loop
 loop-holds c = search needs
 
-turn-requires : tie.Need-turn-requires Inv-loop μ-loop
-turn-requires c κs = search needs
-
-left-requires : tie.Need-left-requires Inv-loop μ-loop
-left-requires c κs = search needs
+read-some-requires : tie.Need-read-some-requires Inv-loop μ-loop
+read-some-requires c κs = search needs
 
 loop-less : tie.Need-loop-less Inv-loop μ-loop
 loop-less c = search needs
 
 loop-again : tie.Need-loop-again Inv-loop μ-loop
 loop-again c = search needs
+
+sub-serve-chunk : tie.Need-sub-serve-chunk Inv-loop μ-loop
+sub-serve-chunk c = search needs
+
+part-serve-chunk-start : tie.Need-part-serve-chunk-start Inv-loop μ-loop
+part-serve-chunk-start c = search needs
+
+part-serve-chunk-end : tie.Need-part-serve-chunk-end Inv-loop μ-loop
+part-serve-chunk-end c = search needs
+
+serve-chunk-requires : tie.Need-serve-chunk-requires Inv-loop μ-loop
+serve-chunk-requires c κs = search needs
+
+sub-turns : tie.Need-sub-turns Inv-loop μ-loop
+sub-turns c = search needs
+
+loop-less-2 : tie.Need-loop-less-2 Inv-loop μ-loop
+loop-less-2 c = search needs
+
+loop-again-2 : tie.Need-loop-again-2 Inv-loop μ-loop
+loop-again-2 c = search needs
 
 serve-last-requires : tie.Need-serve-last-requires Inv-loop μ-loop
 serve-last-requires c κs = search needs
@@ -61,10 +79,16 @@ serve-file-spec =
     Inv-loop
     μ-loop
     loop-holds
-    turn-requires
-    left-requires
+    read-some-requires
     loop-less
     loop-again
+    sub-serve-chunk
+    part-serve-chunk-start
+    part-serve-chunk-end
+    serve-chunk-requires
+    sub-turns
+    loop-less-2
+    loop-again-2
     serve-last-requires
     written-requires
     same-length
