@@ -3,6 +3,12 @@
 kit=${RATTLE_HOME:-$(dirname "$(dirname "$(rt doc)")")}
 machine=$(uname -m)
 kit_tools=$kit/on/$machine/toolchain
+own_compiler=$(command -v cc || true)
+
+# own_c PROGRAM FILE.. [FLAG..]: compile and link by the machine's own compiler
+own_c() {
+    "$own_compiler" -std=c17 -O2 -Wall -Wextra -Werror -Iinclude -o "$@"
+}
 
 # kit_clang OBJECT SOURCE [FLAG..]: compile for x86-64 by the kit's own clang, which has no C headers
 kit_clang() {
@@ -22,8 +28,8 @@ kit_link() {
 c_program() {
     local program=$1
     shift
-    if [ "$machine" = x86_64 ] && command -v cc >/dev/null; then
-        cc -std=c17 -O2 -Wall -Wextra -Werror -Iinclude -o "$program" "$@"
+    if [ "$machine" = x86_64 ] && [ -n "$own_compiler" ]; then
+        own_c "$program" "$@"
         return
     fi
     local objects=() file object
@@ -47,4 +53,27 @@ run_program() {
     else
         "$kit_tools/bin/qemu-x86_64" "$kit_tools/lib/ld-linux-x86-64.so.2" --library-path "$kit_tools/lib" "$@"
     fi
+}
+
+# A C program that links nothing of this project's needs no emulator where the machine has a compiler of its own.
+
+# plain_program PROGRAM SOURCE..
+plain_program() {
+    if [ -n "$own_compiler" ]; then own_c "$@"; else c_program "$@"; fi
+}
+
+# run_plain PROGRAM [ARGUMENT..]: what plain_program made
+run_plain() {
+    if [ -n "$own_compiler" ]; then "$@"; else run_program "$@"; fi
+}
+
+# replay_proved ROOT: the program replay is proved and built where it is not there, or its sources changed
+replay_proved() {
+    local program=$1/target/bin/replay
+    if [ -x "$program" ] && [ -z "$(find "$1/crates" "$1/crates.txt" -newer "$program" -type f -print -quit)" ]; then
+        return
+    fi
+    mkdir -p "$1/target"
+    (cd "$1" && rt check replay) >"$1/target/replay.log" 2>&1 || { cat "$1/target/replay.log" >&2; return 1; }
+    touch "$program"
 }

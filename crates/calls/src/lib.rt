@@ -1,8 +1,10 @@
 // A file of recorded calls is read in chunks, each call is served, and the answers are written by the buffer.
 ghost use lib.ListN.{length};
-ghost use Rattle.answers.specs.Room.{Sized};
+ghost use Rattle.calls.specs.Room.{Sized};
 ghost use Rattle.buffers.specs.Room.{Stands};
 use buffers::Place;
+
+mod answers; // answers.rt: one call, served, and its answer
 
 const FULL: usize = 65536;
 
@@ -21,18 +23,17 @@ fn serve(
     let number = place.number;
     let text = &line[0..kept];
     let call = buffers::call_of(text, place.cut);
-    let left = answers::serve(
+    let lent = answers::lend(call, text, catalogue, place.catalogue);
+    let answered = answers::serve(
         call,
         text,
         number,
         table,
-        catalogue,
-        place.catalogue,
+        &catalogue[0..lent],
         out,
         place.used,
     );
-    let lent = left.catalogue;
-    let used = buffers::written(out, left.used, FULL);
+    let used = buffers::written(out, answered, FULL);
     Place {
         number: std::num::wrapping_add_u64(number, 1),
         kept: 0,
@@ -69,23 +70,6 @@ fn serve_chunk(
     here
 }
 
-// Serves what stands after the last line feed, if it holds a byte.
-fn serve_last(
-    line: &[u8],
-    place: Place,
-    table: &mut [u32],
-    catalogue: &mut [u8],
-    out: &mut [u8],
-) -> Place
-    requires { ⌜ Stands (length (now line)) place × Sized (length (now table)) (length (now catalogue)) (length (now out)) ⌝ }
-    ensures { λ r. ⌜ Stands (length (now (line .entry))) r ⌝ }
-{
-    if place.kept == 0 {
-        return place;
-    }
-    serve(line, place, table, catalogue, out)
-}
-
 // Serves all lines of an open file. A proved loop has to end, and nothing says that a file does: so the loop counts its turns
 // down, from a number that no run uses up.
 fn serve_file(
@@ -116,8 +100,9 @@ fn serve_file(
             turns -= 1;
         }
     }
-    let last = serve_last(line, place, table, catalogue, out);
-    buffers::written(out, last.used, 0);
+    // a last line may lack its line feed; where it does not, this one ends a line without words, which is passed over
+    let end = serve_chunk(b"\n", place, line, table, catalogue, out);
+    buffers::written(out, end.used, 0);
 }
 
 // Serves the recorded calls of an open file, and writes the answers to standard output.

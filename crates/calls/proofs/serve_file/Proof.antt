@@ -7,12 +7,12 @@ use Rattle.calls.proofs.serve_file.Statement.{statement}
 use Rattle.calls.proofs.serve_file.Tie as tie
 
 abbrev Inv-loop : tie.InvT-loop
-Inv-loop fd path chunk₀ line₀ table₀ catalogue₀ out₀ place₀ turns₀ chunk line table catalogue out place turns =
+Inv-loop fd path chunk₀ line₀ table₀ catalogue₀ out₀ place₀ turns₀ feed chunk line table catalogue out place turns =
     Stands (length line) place × (length chunk ≡ length chunk₀) × (length line ≡ length line₀) × (length table ≡ length table₀) × (length catalogue ≡ length catalogue₀)
     × (length out ≡ length out₀)
 
 abbrev μ-loop : tie.MeasureT-loop
-μ-loop fd path chunk₀ line₀ table₀ catalogue₀ out₀ place₀ turns₀ chunk line table catalogue out place turns =
+μ-loop fd path chunk₀ line₀ table₀ catalogue₀ out₀ place₀ turns₀ feed chunk line table catalogue out place turns =
     turns
 
 loop-holds : tie.Need-loop-holds Inv-loop μ-loop
@@ -48,8 +48,11 @@ loop-less-2 c = search needs
 loop-again-2 : tie.Need-loop-again-2 Inv-loop μ-loop
 loop-again-2 c = search needs
 
-serve-last-requires : tie.Need-serve-last-requires Inv-loop μ-loop
-serve-last-requires c κs = search needs
+slice-aggregate-serve-chunk : tie.Need-slice-aggregate-serve-chunk Inv-loop μ-loop
+slice-aggregate-serve-chunk c = search needs
+
+serve-chunk-requires-2 : tie.Need-serve-chunk-requires-2 Inv-loop μ-loop
+serve-chunk-requires-2 c κs = search needs
 
 written-requires : tie.Need-written-requires Inv-loop μ-loop
 written-requires c κs = search needs
@@ -89,7 +92,8 @@ serve-file-spec =
     sub-turns
     loop-less-2
     loop-again-2
-    serve-last-requires
+    slice-aggregate-serve-chunk
+    serve-chunk-requires-2
     written-requires
     same-length
     same-length-2

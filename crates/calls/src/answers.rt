@@ -1,15 +1,20 @@
 // One call of a calls file: it is served, and the answer is laid in the output.
-ghost use Prim.Native.Nat.{_+_, _*_, _/_, _≤_};
+ghost use Prim.Native.Nat.{_+_, _*_, _/_, _<_, _≤_};
 ghost use lib.ListN.{length};
-ghost use Rattle.lexing.specs.Line.{bytesMost, roomMost, Fits};
+ghost use Rattle.lexing.specs.Line.{bytesMost, catalogueMost, indexMost, roomMost, Fits};
 ghost use Rattle.lines.specs.Room.{plain};
-ghost use Rattle.answers.specs.Room.{answerMost, Leaves, Sized};
+ghost use Rattle.calls.specs.Room.{answerMost};
 use lexing::Call;
 
-// What a line leaves: the length of the catalogue that is lent from here on, and how many bytes of the output are in use.
-pub struct Left {
-    pub catalogue: usize,
-    pub used: usize,
+// The length of the catalogue that is lent from this line on.
+pub fn lend(call: Call, line: &[u8], catalogue: &mut [u8], lent: usize) -> usize
+    requires { ⌜ Fits (length (now line)) call × (lent ≤ catalogueMost) × (catalogueMost ≤ length (now catalogue)) ⌝ }
+    ensures { λ r. ⌜ r ≤ catalogueMost ⌝ }
+{
+    match call {
+        Call::Catalogue(first, last) => lines::load(&line[first..last], catalogue),
+        _ => lent,
+    }
 }
 
 fn least(a: usize, b: usize) -> usize
@@ -90,88 +95,50 @@ fn open(
     lines::put_open(out, used, refusal, number)
 }
 
-// Serves the call that the line is.
+// Serves the call that the line is. Answers how many bytes of the output are then in use.
 pub fn serve(
     call: Call,
     line: &[u8],
     number: u64,
     table: &mut [u32],
-    catalogue: &mut [u8],
-    lent: usize,
+    catalogue: &[u8],
     out: &mut [u8],
     used: usize,
-) -> Left
-    requires { ⌜ Fits (length (now line)) call × (lent ≤ 32768) × (used + answerMost ≤ length (now out)) × Sized (length (now table)) (length (now catalogue)) (length (now out)) ⌝ }
-    ensures { λ r. ⌜ Leaves used r ⌝ }
+) -> usize
+    requires { ⌜ Fits (length (now line)) call × (indexMost < length (now table)) × (used + answerMost ≤ length (now out)) ⌝ }
+    ensures { λ r. ⌜ r ≤ used + answerMost ⌝ }
 {
     match call {
-        Call::Nothing => Left {
-            catalogue: lent,
-            used,
-        },
-        Call::Fault(reason) => {
-            let end = lines::put_error(out, used, number, reason);
-            Left {
-                catalogue: lent,
-                used: end,
-            }
-        }
-        Call::Catalogue(first, last) => {
-            let size = lines::load(&line[first..last], catalogue);
-            Left {
-                catalogue: size,
-                used,
-            }
-        }
+        Call::Nothing => used,
+        Call::Catalogue(_, _) => used,
+        Call::Fault(reason) => lines::put_error(out, used, number, reason),
         Call::Connect(seat, version) => {
-            let refusal = connecting::connect(
-                table,
-                &catalogue[0..lent],
-                steps::Seat(seat),
-                version,
-            );
-            let end = lines::put_connect(out, used, refusal);
-            Left {
-                catalogue: lent,
-                used: end,
-            }
+            let refusal = connecting::connect(table, catalogue, steps::Seat(seat), version);
+            lines::put_connect(out, used, refusal)
         }
-        Call::Open(seat, first, last) => {
-            let end = open(
-                table,
-                &catalogue[0..lent],
-                seat,
-                &line[first..last],
-                out,
-                used,
-            );
-            Left {
-                catalogue: lent,
-                used: end,
-            }
-        }
+        Call::Open(seat, first, last) => open(
+            table,
+            catalogue,
+            seat,
+            &line[first..last],
+            out,
+            used,
+        ),
         Call::Message(seat, room, first, last) => {
-            let end = message(
+            message(
                 table,
-                &catalogue[0..lent],
+                catalogue,
                 seat,
                 room as usize,
                 &line[first..last],
                 out,
                 used,
-            );
-            Left {
-                catalogue: lent,
-                used: end,
-            }
+            )
         }
         Call::Word(index, value) => {
             let at = index as usize;
             table[at] = value;
-            Left {
-                catalogue: lent,
-                used,
-            }
+            used
         }
     }
 }
