@@ -1,29 +1,27 @@
 // One call of a calls file: it is served, and the answer is laid in the output.
-ghost use Prim.Native.Nat.{_+_, _*_, _/_, _<_, _≤_};
+ghost use Prim.Native.Nat.{_+_, _/_, _<_, _≤_};
 ghost use lib.ListN.{length};
+ghost use Rattle.digits.specs.Digits.{hexBytes};
 ghost use Rattle.lexing.specs.Line.{bytesMost, catalogueMost, indexMost, roomMost, Fits};
-ghost use Rattle.lines.specs.Room.{plain};
+ghost use Rattle.steps.specs.Step.{sourcesOf, messageStep, openStep};
 ghost use Rattle.calls.specs.Room.{answerMost};
+ghost use Rattle.calls.specs.Served.{opened, replied, answerTo, Serves, lentOf, lentBy, Lends};
 use lexing::Call;
 
-// The length of the catalogue that is lent from this line on.
+// The catalogue that is lent from this line on. Answers its length.
 pub fn lend(call: Call, line: &[u8], catalogue: &mut [u8], lent: usize) -> usize
-    requires { ⌜ Fits (length (now line)) call × (lent ≤ catalogueMost) × (catalogueMost ≤ length (now catalogue)) ⌝ }
-    ensures { λ r. ⌜ r ≤ catalogueMost ⌝ }
+    requires { ⌜ Fits (length (now line)) call × (catalogueMost ≤ length (now catalogue)) ⌝ }
+    ensures { λ r. ⌜ Lends (lentBy call (now (line .entry)) (lentOf lent (now (catalogue .entry)))) r (now (catalogue .exit)) ⌝ }
 {
     match call {
+        Call::Nothing => lent,
+        Call::Fault(_) => lent,
         Call::Catalogue(first, last) => lines::load(&line[first..last], catalogue),
-        _ => lent,
+        Call::Connect(_, _) => lent,
+        Call::Open(_, _, _) => lent,
+        Call::Message(_, _, _, _) => lent,
+        Call::Word(_, _) => lent,
     }
-}
-
-fn least(a: usize, b: usize) -> usize
-    ensures { λ r. ⌜ (r ≤ a) × (r ≤ b) ⌝ }
-{
-    if a < b {
-        return a;
-    }
-    b
 }
 
 // Serves a message, with a reply buffer that is filled first.
@@ -36,15 +34,14 @@ fn reply(
     out: &mut [u8],
     used: usize,
 ) -> usize
-    requires { ⌜ used + 2 * length (now space) + plain ≤ length (now out) ⌝ }
-    ensures { λ r. ⌜ r ≤ used + 2 * length (now (space .entry)) + plain ⌝ }
+    requires { ⌜ (length (now space) ≤ roomMost) × (used + answerMost ≤ length (now out)) ⌝ }
+    ensures { λ r. ⌜ Serves (replied (messageStep (sourcesOf (now (catalogue .entry))) (now (table .entry)) seat (now (bytes .entry)) (length (now (space .entry))))) used r (now (table .exit)) (now (out .entry)) (now (out .exit)) ⌝ }
 {
     wording::fill(space);
     let answered = exchange::message(table, catalogue, steps::Seat(seat), bytes, space);
     let refusal = answered.refusal;
-    let told = answered.count;
-    let count = least(told as usize, space.len());
-    lines::put_message(out, used, refusal, space, count)
+    let count = answered.count;
+    lines::put_message(out, used, refusal, space, count as usize)
 }
 
 // Serves the message whose digits stand in a part of the line.
@@ -58,7 +55,7 @@ fn message(
     used: usize,
 ) -> usize
     requires { ⌜ (room ≤ roomMost) × (length (now digits) / 2 ≤ bytesMost) × (used + answerMost ≤ length (now out)) ⌝ }
-    ensures { λ r. ⌜ r ≤ used + answerMost ⌝ }
+    ensures { λ r. ⌜ Serves (replied (messageStep (sourcesOf (now (catalogue .entry))) (now (table .entry)) seat (hexBytes (now (digits .entry))) room)) used r (now (table .exit)) (now (out .entry)) (now (out .exit)) ⌝ }
 {
     let mut bytes = [0u8; 20000];
     let mut space = [0u8; 20000];
@@ -83,8 +80,8 @@ fn open(
     out: &mut [u8],
     used: usize,
 ) -> usize
-    requires { ⌜ (length (now digits) / 2 ≤ bytesMost) × (used + plain ≤ length (now out)) ⌝ }
-    ensures { λ r. ⌜ r ≤ used + plain ⌝ }
+    requires { ⌜ (length (now digits) / 2 ≤ bytesMost) × (used + answerMost ≤ length (now out)) ⌝ }
+    ensures { λ r. ⌜ Serves (opened (openStep (sourcesOf (now (catalogue .entry))) (now (table .entry)) seat (hexBytes (now (digits .entry))))) used r (now (table .exit)) (now (out .entry)) (now (out .exit)) ⌝ }
 {
     let mut bytes = [0u8; 20000];
     let size = lines::load(digits, &mut bytes);
@@ -106,12 +103,12 @@ pub fn serve(
     used: usize,
 ) -> usize
     requires { ⌜ Fits (length (now line)) call × (indexMost < length (now table)) × (used + answerMost ≤ length (now out)) ⌝ }
-    ensures { λ r. ⌜ r ≤ used + answerMost ⌝ }
+    ensures { λ r. ⌜ Serves (answerTo call (now (line .entry)) number (now (table .entry)) (now (catalogue .entry))) used r (now (table .exit)) (now (out .entry)) (now (out .exit)) ⌝ }
 {
     match call {
         Call::Nothing => used,
-        Call::Catalogue(_, _) => used,
         Call::Fault(reason) => lines::put_error(out, used, number, reason),
+        Call::Catalogue(_, _) => used,
         Call::Connect(seat, version) => {
             let refusal = connecting::connect(table, catalogue, steps::Seat(seat), version);
             lines::put_connect(out, used, refusal)
@@ -124,17 +121,15 @@ pub fn serve(
             out,
             used,
         ),
-        Call::Message(seat, room, first, last) => {
-            message(
-                table,
-                catalogue,
-                seat,
-                room as usize,
-                &line[first..last],
-                out,
-                used,
-            )
-        }
+        Call::Message(seat, room, first, last) => message(
+            table,
+            catalogue,
+            seat,
+            room as usize,
+            &line[first..last],
+            out,
+            used,
+        ),
         Call::Word(index, value) => {
             let at = index as usize;
             table[at] = value;

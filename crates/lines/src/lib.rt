@@ -1,7 +1,11 @@
 // The lines of a calls file and of its answers: the bytes that a part of a line spells, and each kind of answer laid in the output.
 ghost use mathlib.Core.Path.{_≡_};
-ghost use Prim.Native.Nat.{_+_, _-_, _*_, _/_, _≤_};
-ghost use lib.ListN.{length};
+ghost use mathlib.Core.List.{_++_};
+ghost use Prim.Native.Nat.{_+_, _*_, _/_, _≤_};
+ghost use lib.ListN.{length, take, drop};
+ghost use Rattle.digits.specs.Digits.{hexBytes};
+ghost use Rattle.wording.specs.Text.{Put, hexText, changed};
+ghost use Rattle.lines.specs.Answer.{reasonText, errorText, connectText, openText, endText, messageText};
 ghost use Rattle.lines.specs.Room.{plain};
 use lexing::Reason;
 use wording::put;
@@ -10,7 +14,7 @@ use wording::put_hex;
 
 fn put_reason(out: &mut [u8], at: usize, reason: Reason) -> usize
     requires { ⌜ at + 12 ≤ length (now out) ⌝ }
-    ensures { λ r. ⌜ r ≤ at + 12 ⌝ }
+    ensures { λ r. ⌜ Put (reasonText reason) at r (now (out .entry)) (now (out .exit)) ⌝ }
 {
     match reason {
         Reason::UnknownCall => put(out, at, b"unknown call"),
@@ -26,7 +30,7 @@ fn put_reason(out: &mut [u8], at: usize, reason: Reason) -> usize
 // `error LINE` and the reason.
 pub fn put_error(out: &mut [u8], used: usize, line: u64, reason: Reason) -> usize
     requires { ⌜ used + plain ≤ length (now out) ⌝ }
-    ensures { λ r. ⌜ r ≤ used + plain ⌝ }
+    ensures { λ r. ⌜ Put (errorText line reason) used r (now (out .entry)) (now (out .exit)) ⌝ }
 {
     let number = put(out, used, b"error ");
     let space = put_decimal(out, number, line);
@@ -38,7 +42,7 @@ pub fn put_error(out: &mut [u8], used: usize, line: u64, reason: Reason) -> usiz
 // `connect REFUSAL`
 pub fn put_connect(out: &mut [u8], used: usize, refusal: u32) -> usize
     requires { ⌜ used + plain ≤ length (now out) ⌝ }
-    ensures { λ r. ⌜ r ≤ used + plain ⌝ }
+    ensures { λ r. ⌜ Put (connectText refusal) used r (now (out .entry)) (now (out .exit)) ⌝ }
 {
     let number = put(out, used, b"connect ");
     let end = put_decimal(out, number, refusal as u64);
@@ -48,7 +52,7 @@ pub fn put_connect(out: &mut [u8], used: usize, refusal: u32) -> usize
 // `open REFUSAL HANDLE`
 pub fn put_open(out: &mut [u8], used: usize, refusal: u32, handle: u32) -> usize
     requires { ⌜ used + plain ≤ length (now out) ⌝ }
-    ensures { λ r. ⌜ r ≤ used + plain ⌝ }
+    ensures { λ r. ⌜ Put (openText refusal handle) used r (now (out .entry)) (now (out .exit)) ⌝ }
 {
     let number = put(out, used, b"open ");
     let space = put_decimal(out, number, refusal as u64);
@@ -60,7 +64,7 @@ pub fn put_open(out: &mut [u8], used: usize, refusal: u32, handle: u32) -> usize
 // ` spilled` where a byte past the count changed, and the line's end.
 fn put_end(out: &mut [u8], at: usize, reply: &[u8], count: usize) -> usize
     requires { ⌜ at + 9 ≤ length (now out) ⌝ }
-    ensures { λ r. ⌜ r ≤ at + 9 ⌝ }
+    ensures { λ r. ⌜ Put (endText (changed (drop count (now (reply .entry))))) at r (now (out .entry)) (now (out .exit)) ⌝ }
 {
     if wording::spilled(reply, count) {
         return put(out, at, b" spilled\n");
@@ -71,7 +75,7 @@ fn put_end(out: &mut [u8], at: usize, reply: &[u8], count: usize) -> usize
 // The first bytes of a reply.
 fn put_first(out: &mut [u8], at: usize, reply: &[u8], count: usize) -> usize
     requires { ⌜ (at + 2 * length (now reply) + 1 ≤ length (now out)) × (count ≤ length (now reply)) ⌝ }
-    ensures { λ r. ⌜ r ≤ at + 2 * length (now (reply .entry)) + 1 ⌝ }
+    ensures { λ r. ⌜ Put (hexText (take count (now (reply .entry)))) at r (now (out .entry)) (now (out .exit)) ⌝ }
 {
     put_hex(out, at, &reply[0..count])
 }
@@ -79,7 +83,7 @@ fn put_first(out: &mut [u8], at: usize, reply: &[u8], count: usize) -> usize
 // `message REFUSAL COUNT HEX`
 pub fn put_message(out: &mut [u8], used: usize, refusal: u32, reply: &[u8], count: usize) -> usize
     requires { ⌜ (used + 2 * length (now reply) + plain ≤ length (now out)) × (count ≤ length (now reply)) ⌝ }
-    ensures { λ r. ⌜ r ≤ used + 2 * length (now (reply .entry)) + plain ⌝ }
+    ensures { λ r. ⌜ Put (messageText refusal count (now (reply .entry))) used r (now (out .entry)) (now (out .exit)) ⌝ }
 {
     let number = put(out, used, b"message ");
     let space = put_decimal(out, number, refusal as u64);
@@ -93,7 +97,7 @@ pub fn put_message(out: &mut [u8], used: usize, refusal: u32, reply: &[u8], coun
 // The bytes that a part of the line spells. Answers how many they are.
 pub fn load(digits: &[u8], into: &mut [u8]) -> usize
     requires { ⌜ length (now digits) / 2 ≤ length (now into) ⌝ }
-    ensures { λ r. ⌜ r ≡ length (now (digits .entry)) / 2 ⌝ }
+    ensures { λ r. ⌜ (r ≡ length (now (digits .entry)) / 2) × (now (into .exit) ≡ hexBytes (now (digits .entry)) ++ drop (length (now (digits .entry)) / 2) (now (into .entry))) ⌝ }
 {
     digits::hex_bytes(digits, into);
     digits.len() / 2

@@ -1,15 +1,16 @@
 -- Where each hex digit stands, and how a change is found. Assumes nothing.
-use mathlib.Core.Path.{_≡_, refl}
+use mathlib.Core.Path.{_≡_, refl, _∙_}
 use mathlib.Core.Bool.{Bool, true, false}
-use mathlib.Core.List.{List, [], _∷_}
+use mathlib.Core.List.{List, [], _∷_, _++_}
 use Prim.Native.Nat.{ℕ, zero, suc, _+_, _*_, _/_, _%_, _≤_, _<_}
 use native.Mathlib.Numerals.{add-one}
 use native.Mathlib.Omega.{arith}
-use lib.ListN.{length, getD, drop, set, drop-of-length-le}
+use lib.ListN.{length, getD, drop, set, drop-of-length-le, length-append}
 use lib.Seq.{drop-cons, paste, paste-suc}
 use borrow.Author.Tests.{eq-eqb, ne-eqb}
 use Rattle.words.specs.Below.{either}
-use Rattle.wording.specs.Text.{glyph, hexPairs, hexText, fillByte, changed}
+use Rattle.spans.proofs.Lay.{lay-join}
+use Rattle.wording.specs.Text.{Put, glyph, hexPairs, hexText, fillByte, changed}
 
 pub pairs-length : (s : List ℕ) → length (hexPairs s) ≡ 2 * length s
 unfolding hexPairs
@@ -51,6 +52,11 @@ unfolding hexText
 text-none [] h = refl
 text-none (b ∷ s) h = absurd (omega arith)
 
+pub hex-short : (s : List ℕ) → length (hexText s) ≤ 2 * length s + 1
+unfolding hexText
+hex-short [] = omega arith
+hex-short (b ∷ s) = let e = pairs-length (b ∷ s) in omega arith
+
 -- a byte that changed, one that did not, the end
 module _ (s : List ℕ) (i : ℕ) where
   pub changed-here : i < length s → (getD s i 0 ≡ fillByte → ⊥) → changed (drop i s) ≡ true
@@ -73,3 +79,10 @@ found-now false b e = e
 pub found-only : (a b : Bool) → b ≡ false → either a b ≡ a
 found-only true b e = refl
 found-only false b e = e
+
+-- a text after another is both in one
+pub put-then : {s t : List ℕ} {at m r : ℕ} {a b c : List ℕ} → Put s at m a b → Put t m r b c → m ≤ length a → Put (s ++ t) at r a c
+put-then {s} {t} {at} {m} {r} {a} p q h = record {
+  next = omega (arith, p .next, q .next, length-append s t);
+  laid = q .laid ∙ rw (p .laid, p .next) (lay-join a at s t (omega (arith, p .next)));
+}

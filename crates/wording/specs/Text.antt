@@ -1,11 +1,10 @@
 -- The text of answers: numbers, bytes, and what the reply buffer was filled with (README, "Replaying recorded calls").
 use mathlib.Core.Path.{_≡_}
 use mathlib.Core.Bool.{Bool, true, false}
-use mathlib.Core.List.{List, [], _∷_}
-use Prim.Native.Nat.{ℕ, _+_, _-_, _/_, _%_, _≤_}
+use mathlib.Core.List.{List, [], _∷_, _++_}
+use Prim.Native.Nat.{ℕ, zero, suc, _+_, _/_, _%_}
 use lib.Dec.{eqb, ltb}
 use lib.ListN.{length}
-use Rattle.io.specs.Digits.{digits, Fewest}
 use Rattle.words.specs.Below.{pick, either}
 use Rattle.spans.specs.Laid.{lay}
 
@@ -14,12 +13,14 @@ pub record Put (text : List ℕ) (at r : ℕ) (before after : List ℕ) : Type 0
   pub next : r ≡ at + length text
   pub laid : after ≡ lay before at text
 
--- a number's decimal digits were laid at a place: as few as hold it
-pub record PutDecimal (n at r : ℕ) (before after : List ℕ) : Type 0 where
-  pub from : at ≤ r
-  pub most : r ≤ at + 20
-  pub few : Fewest 10 1 n (r - at)
-  pub laid : after ≡ lay before at (digits 10 (r - at) n)
+-- a number in decimal digits without leading zeros, of so many at most
+unfoldable pub numeral : ℕ → ℕ → List ℕ
+numeral zero n = []
+numeral (suc k) n = pick (ltb n 10) ((48 + n) ∷ []) (numeral k (n / 10) ++ ((48 + n % 10) ∷ []))
+
+-- "Numbers are decimal": those of the answers have 64 bits at most, so 20 digits
+abbrev pub decimalText : ℕ → List ℕ
+decimalText n = numeral 20 n
 
 -- a hex digit, "upper case"
 abbrev pub glyph : ℕ → ℕ

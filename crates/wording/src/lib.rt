@@ -3,7 +3,7 @@
 ghost use mathlib.Core.Path.{_≡_};
 ghost use Prim.Native.Nat.{_+_, _*_, _≤_, _<_};
 ghost use lib.ListN.{length, take, drop, replicate};
-ghost use Rattle.wording.specs.Text.{Put, PutDecimal, glyph, hexPairs, hexText, fillByte, changed};
+ghost use Rattle.wording.specs.Text.{Put, decimalText, glyph, hexPairs, hexText, fillByte, changed};
 
 // A text.
 pub fn put(out: &mut [u8], at: usize, text: &[u8]) -> usize
@@ -27,7 +27,7 @@ fn put_digits(out: &mut [u8], at: usize, text: &[u8; 20], count: usize) -> usize
 // A number in decimal digits.
 pub fn put_decimal(out: &mut [u8], at: usize, value: u64) -> usize
     requires { ⌜ at + 20 ≤ length (now out) ⌝ }
-    ensures { λ r. ⌜ PutDecimal value at r (now (out .entry)) (now (out .exit)) ⌝ }
+    ensures { λ r. ⌜ Put (decimalText value) at r (now (out .entry)) (now (out .exit)) ⌝ }
 {
     let mut text = [0u8; 20];
     let count = io::decimal(value, &mut text);
@@ -64,7 +64,7 @@ fn put_pairs(out: &mut [u8], at: usize, bytes: &[u8]) -> usize
 // The bytes in hex digits, or `-` for none.
 pub fn put_hex(out: &mut [u8], at: usize, bytes: &[u8]) -> usize
     requires { ⌜ at + 2 * length (now bytes) + 1 ≤ length (now out) ⌝ }
-    ensures { λ r. ⌜ Put (hexText (now (bytes .entry))) at r (now (out .entry)) (now (out .exit)) × (r ≤ at + 2 * length (now (bytes .entry)) + 1) ⌝ }
+    ensures { λ r. ⌜ Put (hexText (now (bytes .entry))) at r (now (out .entry)) (now (out .exit)) ⌝ }
 {
     if bytes.len() == 0 {
         return put(out, at, b"-");

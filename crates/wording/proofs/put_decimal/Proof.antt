@@ -5,6 +5,7 @@ use native.Mathlib.Omega.{arith}
 use borrow.Author.Needs.{needs}
 use Rattle.wording.proofs.put_decimal.Statement.{statement}
 use Rattle.wording.proofs.put_decimal.Tie as tie
+use Rattle.wording.proofs.Numeral.{numeral-is}
 
 decimal-requires : tie.Need-decimal-requires
 decimal-requires c κs = search needs
@@ -20,13 +21,7 @@ returns c =
     let d = c .before .before .before .before .before .decimal in
     let p = c .before .before .put-digits .ensures in
     let g = c .before .before .before .before .before .before .before .before .args in
-    let n : c .before .before .put-digits .result - g .at ≡ d .result = omega (arith, p .1 .next, d .ensures .0 .1) in
-    record {
-      from = omega (arith, p .1 .next);
-      most = omega (arith, p .0, p .1 .next, d .ensures .0 .1);
-      few = rw n (d .ensures .1 .0);
-      laid = rw (n, ← (d .ensures .1 .1)) (p .1 .laid);
-    }
+    rw (d .ensures .1 .1, numeral-is 20 (d .result) (g .value) (p .0) (d .ensures .1 .0)) at (p .1)
 
 pub put-decimal-spec : {M : Type 1} → statement M
 put-decimal-spec = tie.close (tie.spec decimal-requires put-digits-requires same-length returns)

@@ -1,6 +1,5 @@
 -- No bytes, or some. Assumes nothing.
-use native.Mathlib.Omega.{arith}
-use Rattle.wording.proofs.TextLaws.{text-none, text-some, pairs-length}
+use Rattle.wording.proofs.TextLaws.{text-none, text-some}
 use borrow.Author.Needs.{needs}
 use Rattle.wording.proofs.put_hex.Statement.{statement}
 use Rattle.wording.proofs.put_hex.Tie as tie
@@ -18,7 +17,7 @@ returns : tie.Need-returns
 returns c =
     let some = c .before .before .before .before .before .before .before .before .args .bytes .now in
     let p = c .before .before .put .ensures in
-    (rw (text-none some (c .before .before .before .before .before .if1 .taken)) p, omega (arith, p .next))
+    rw (text-none some (c .before .before .before .before .before .if1 .taken)) p
 
 put-pairs-requires : tie.Need-put-pairs-requires
 put-pairs-requires c κs = search needs
@@ -30,7 +29,7 @@ returns-2 : tie.Need-returns-2
 returns-2 c =
     let some = c .before .before .before .before .before .before .before .args .bytes .now in
     let p = c .before .before .put-pairs .ensures in
-    (rw (text-some some (c .before .before .before .before .if1 .left)) p, omega (arith, p .next, pairs-length some))
+    rw (text-some some (c .before .before .before .before .if1 .left)) p
 
 pub put-hex-spec : {M : Type 1} → statement M
 put-hex-spec =

@@ -1,0 +1,75 @@
+-- What a line of a calls file does (README, "Replaying recorded calls"): the answer's text, the table afterwards, and the catalogue that
+-- is lent from there on.
+use mathlib.Core.Path.{_≡_}
+use mathlib.Core.List.{List, [], _++_}
+use Prim.Native.Nat.{ℕ, _+_, _/_, _≤_}
+use lib.ListN.{length, drop, set}
+use Rattle.digits.specs.Digits.{hexBytes}
+use Rattle.lexing.specs.Line.{between}
+use Rattle.lexing.specs.declared.Call.{Call}
+use Rattle.lexing.specs.declared.Call.the-variants as call
+use Rattle.wording.specs.Text.{Put}
+use Rattle.lines.specs.Answer.{errorText, connectText, openText, messageText}
+use Rattle.calls.specs.Room.{answerMost}
+use Rattle.steps.specs.Step.{Outcome, sourcesOf, connectStep, openStep, messageStep}
+
+-- a call's answer, nothing or a line, and the table's words afterwards
+pub record Answer : Type 0 where
+  pub text : List ℕ
+  pub words : List ℕ
+
+abbrev pub silent : List ℕ → Answer
+silent t = record { text = []; words = t }
+
+abbrev pub connected : Outcome → Answer
+connected o = record { text = connectText (o .refusal); words = o .words }
+
+abbrev pub opened : Outcome → Answer
+opened o = record { text = openText (o .refusal) (o .handle); words = o .words }
+
+-- the bytes of the reply alone are told: none past them changes, so no answer ends in ` spilled`
+abbrev pub replied : Outcome → Answer
+replied o = record { text = messageText (o .refusal) (length (o .reply)) (o .reply); words = o .words }
+
+-- the answer to the call that a line is, with its number, on a table and a lent catalogue
+abbrev pub answerTo : Call → List ℕ → ℕ → List ℕ → List ℕ → Answer
+answerTo call.Nothing line number t s = silent t
+answerTo (call.Fault reason) line number t s = record { text = errorText number reason; words = t }
+answerTo (call.Catalogue first last) line number t s = silent t
+answerTo (call.Connect seat version) line number t s = connected (connectStep (sourcesOf s) t seat version)
+answerTo (call.Open seat first last) line number t s = opened (openStep (sourcesOf s) t seat (hexBytes (between first last line)))
+answerTo (call.Message seat room first last) line number t s = replied (messageStep (sourcesOf s) t seat (hexBytes (between first last line)) room)
+answerTo (call.Word index value) line number t s = silent (set t index value)
+
+-- the answer as what a function leaves: the text is laid in the output from a place on, and the place after it is told; it has the room
+-- that every answer has
+pub record Serves (a : Answer) (used r : ℕ) (words before after : List ℕ) : Type 0 where
+  pub kept : words ≡ a .words
+  pub said : Put (a .text) used r before after
+  pub fits : r ≤ used + answerMost
+
+-- the buffer of the catalogue, and how many of its bytes are lent
+pub record Lent : Type 0 where
+  pub size : ℕ
+  pub buffer : List ℕ
+
+abbrev pub lentOf : ℕ → List ℕ → Lent
+lentOf size buffer = record { size = size; buffer = buffer }
+
+-- "lends this catalogue from here on"
+abbrev pub lentBy : Call → List ℕ → Lent → Lent
+lentBy call.Nothing line l = l
+lentBy (call.Fault reason) line l = l
+lentBy (call.Catalogue first last) line l =
+    lentOf
+    (length (between first last line) / 2)
+    (hexBytes (between first last line) ++ drop (length (between first last line) / 2) (l .buffer))
+lentBy (call.Connect seat version) line l = l
+lentBy (call.Open seat first last) line l = l
+lentBy (call.Message seat room first last) line l = l
+lentBy (call.Word index value) line l = l
+
+-- the same as what a function leaves
+pub record Lends (l : Lent) (r : ℕ) (exit : List ℕ) : Type 0 where
+  pub sized : r ≡ l .size
+  pub left : exit ≡ l .buffer

@@ -1,0 +1,43 @@
+-- How long an answer is. Assumes nothing.
+use mathlib.Core.Bool.{Bool, true, false}
+use mathlib.Core.List.{List, _++_}
+use Prim.Native.Nat.{ℕ, _+_, _*_, _≤_}
+use native.Mathlib.Omega.{arith}
+use lib.ListN.{length, take, drop, length-append}
+use Rattle.lexing.specs.declared.Reason.{Reason}
+use Rattle.lexing.specs.declared.Reason.the-variants.{UnknownCall, MissingWord, ExtraWord, BadNumber, BadHex, TooLong, NoSuchWord}
+use Rattle.wording.specs.Text.{decimalText, hexText, changed}
+use Rattle.wording.proofs.Numeral.{numeral-short}
+use Rattle.wording.proofs.TextLaws.{hex-short}
+use Rattle.lines.specs.Answer.{space, feed, reasonText, errorText, connectText, openText, endText, messageText}
+use Rattle.lines.specs.Room.{plain}
+
+pub reason-short : (r : Reason) → length (reasonText r) ≤ 12
+reason-short UnknownCall = omega arith
+reason-short MissingWord = omega arith
+reason-short ExtraWord = omega arith
+reason-short BadNumber = omega arith
+reason-short BadHex = omega arith
+reason-short TooLong = omega arith
+reason-short NoSuchWord = omega arith
+
+pub end-short : (b : Bool) → length (endText b) ≤ 9
+end-short true = omega arith
+end-short false = omega arith
+
+pub error-short : (n : ℕ) (r : Reason) → length (errorText n r) ≤ plain
+error-short n r =
+    omega (arith, length-append (decimalText n) (space ++ (reasonText r ++ feed)), length-append (reasonText r) feed, numeral-short 20 n, reason-short r)
+
+pub connect-short : (a : ℕ) → length (connectText a) ≤ plain
+connect-short a = omega (arith, length-append (decimalText a) feed, numeral-short 20 a)
+
+pub open-short : (a b : ℕ) → length (openText a b) ≤ plain
+open-short a b =
+    omega (arith, length-append (decimalText a) (space ++ (decimalText b ++ feed)), length-append (decimalText b) feed, numeral-short 20 a, numeral-short 20 b)
+
+pub message-short : (a n : ℕ) (s : List ℕ) → length (messageText a n s) ≤ 2 * length (take n s) + plain
+message-short a n s =
+    let e = endText (changed (drop n s)) in
+    let h = hexText (take n s) in
+    omega (arith, length-append (decimalText a) (space ++ (decimalText n ++ (space ++ (h ++ e)))), length-append (decimalText n) (space ++ (h ++ e)), length-append h e, numeral-short 20 a, numeral-short 20 n, hex-short (take n s), end-short (changed (drop n s)))
