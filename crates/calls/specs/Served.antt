@@ -5,7 +5,7 @@ use mathlib.Core.List.{List, [], _++_}
 use Prim.Native.Nat.{ℕ, _+_, _/_, _≤_}
 use lib.ListN.{length, drop, set}
 use Rattle.digits.specs.Digits.{hexBytes}
-use Rattle.lexing.specs.Line.{between}
+use Rattle.lexing.specs.Line.{catalogueMost, between}
 use Rattle.lexing.specs.declared.Call.{Call}
 use Rattle.lexing.specs.declared.Call.the-variants as call
 use Rattle.wording.specs.Text.{Put}
@@ -69,7 +69,8 @@ lentBy (call.Open seat first last) line l = l
 lentBy (call.Message seat room first last) line l = l
 lentBy (call.Word index value) line l = l
 
--- the same as what a function leaves
+-- the same as what a function leaves; it is no more than a catalogue may have
 pub record Lends (l : Lent) (r : ℕ) (exit : List ℕ) : Type 0 where
   pub sized : r ≡ l .size
   pub left : exit ≡ l .buffer
+  pub fits : r ≤ catalogueMost

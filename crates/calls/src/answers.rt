@@ -10,7 +10,7 @@ use lexing::Call;
 
 // The catalogue that is lent from this line on. Answers its length.
 pub fn lend(call: Call, line: &[u8], catalogue: &mut [u8], lent: usize) -> usize
-    requires { ⌜ Fits (length (now line)) call × (catalogueMost ≤ length (now catalogue)) ⌝ }
+    requires { ⌜ Fits (length (now line)) call × (lent ≤ catalogueMost) × (catalogueMost ≤ length (now catalogue)) ⌝ }
     ensures { λ r. ⌜ Lends (lentBy call (now (line .entry)) (lentOf lent (now (catalogue .entry)))) r (now (catalogue .exit)) ⌝ }
 {
     match call {

@@ -1,1 +1,1 @@
-mod DigitLaws
+pub mod DigitLaws

@@ -26,17 +26,21 @@ end-short true = omega arith
 end-short false = omega arith
 
 pub error-short : (n : ℕ) (r : Reason) → length (errorText n r) ≤ plain
+unfolding errorText
 error-short n r =
     omega (arith, length-append (decimalText n) (space ++ (reasonText r ++ feed)), length-append (reasonText r) feed, numeral-short 20 n, reason-short r)
 
 pub connect-short : (a : ℕ) → length (connectText a) ≤ plain
+unfolding connectText
 connect-short a = omega (arith, length-append (decimalText a) feed, numeral-short 20 a)
 
 pub open-short : (a b : ℕ) → length (openText a b) ≤ plain
+unfolding openText
 open-short a b =
     omega (arith, length-append (decimalText a) (space ++ (decimalText b ++ feed)), length-append (decimalText b) feed, numeral-short 20 a, numeral-short 20 b)
 
 pub message-short : (a n : ℕ) (s : List ℕ) → length (messageText a n s) ≤ 2 * length (take n s) + plain
+unfolding messageText
 message-short a n s =
     let e = endText (changed (drop n s)) in
     let h = hexText (take n s) in

@@ -29,15 +29,15 @@ abbrev pub errorName : List ℕ
 errorName = 101 ∷ 114 ∷ 114 ∷ 111 ∷ 114 ∷ []
 
 -- "`error LINE REASON`"
-abbrev pub errorText : ℕ → Reason → List ℕ
+unfoldable pub errorText : ℕ → Reason → List ℕ
 errorText line reason = (errorName ++ space) ++ (decimalText line ++ (space ++ (reasonText reason ++ feed)))
 
 -- "`connect REFUSAL`"
-abbrev pub connectText : ℕ → List ℕ
+unfoldable pub connectText : ℕ → List ℕ
 connectText refusal = (connectName ++ space) ++ (decimalText refusal ++ feed)
 
 -- "`open REFUSAL HANDLE`"
-abbrev pub openText : ℕ → ℕ → List ℕ
+unfoldable pub openText : ℕ → ℕ → List ℕ
 openText refusal handle = (openName ++ space) ++ (decimalText refusal ++ (space ++ (decimalText handle ++ feed)))
 
 -- "where a byte past COUNT changed, the answer ends in ` spilled`"
@@ -46,7 +46,7 @@ endText true = 32 ∷ 115 ∷ 112 ∷ 105 ∷ 108 ∷ 108 ∷ 101 ∷ 100 ∷ 10
 endText false = feed
 
 -- "`message REFUSAL COUNT HEX`, HEX the COUNT bytes written": the first so many of the reply buffer
-abbrev pub messageText : ℕ → ℕ → List ℕ → List ℕ
+unfoldable pub messageText : ℕ → ℕ → List ℕ → List ℕ
 messageText refusal count reply =
     (messageName ++ space)
     ++ (decimalText refusal ++ (space ++ (decimalText count ++ (space ++ (hexText (take count reply) ++ endText (changed (drop count reply)))))))

@@ -1,14 +1,15 @@
 -- Where each hex digit stands, and how a change is found. Assumes nothing.
-use mathlib.Core.Path.{_≡_, refl, _∙_}
+use mathlib.Core.Path.{_≡_, refl, sym, _∙_}
 use mathlib.Core.Bool.{Bool, true, false}
 use mathlib.Core.List.{List, [], _∷_, _++_}
 use Prim.Native.Nat.{ℕ, zero, suc, _+_, _*_, _/_, _%_, _≤_, _<_}
 use native.Mathlib.Numerals.{add-one}
 use native.Mathlib.Omega.{arith}
-use lib.ListN.{length, getD, drop, set, drop-of-length-le, length-append}
+use lib.ListN.{length, getD, drop, set, drop-of-length-le, length-append, take-append-drop}
 use lib.Seq.{drop-cons, paste, paste-suc}
 use borrow.Author.Tests.{eq-eqb, ne-eqb}
 use Rattle.words.specs.Below.{either}
+use Rattle.spans.specs.Laid.{lay}
 use Rattle.spans.proofs.Lay.{lay-join}
 use Rattle.wording.specs.Text.{Put, glyph, hexPairs, hexText, fillByte, changed}
 
@@ -86,3 +87,11 @@ put-then {s} {t} {at} {m} {r} {a} p q h = record {
   next = omega (arith, p .next, q .next, length-append s t);
   laid = q .laid ∙ rw (p .laid, p .next) (lay-join a at s t (omega (arith, p .next)));
 }
+
+-- no text
+pub put-none : (at : ℕ) (a : List ℕ) → Put [] at at a a
+unfolding lay
+put-none at a = record { next = omega arith; laid = rw none (sym (take-append-drop at a)) }
+  where
+    none : at + 0 ≡ at
+    none = omega arith

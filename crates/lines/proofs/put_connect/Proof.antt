@@ -2,6 +2,7 @@
 use native.Mathlib.Omega.{arith}
 use Rattle.wording.proofs.Numeral.{numeral-short}
 use Rattle.wording.proofs.TextLaws.{put-then}
+use Rattle.lines.specs.Answer.{connectText}
 use borrow.Author.Needs.{needs}
 use Rattle.lines.proofs.put_connect.Statement.{statement}
 use Rattle.lines.proofs.put_connect.Tie as tie
@@ -25,6 +26,7 @@ same-length : tie.Need-same-length
 same-length c = search needs
 
 returns : tie.Need-returns
+unfolding connectText
 returns c =
     let a = c .before .before .before .before .before .before .before .before .before .before .before .before .before .before .before .args in
     let one = c .before .before .before .before .before .before .before .before .before .before .before .put in

@@ -3,6 +3,7 @@ use native.Mathlib.Omega.{arith}
 use Rattle.wording.proofs.Numeral.{numeral-short}
 use Rattle.wording.proofs.TextLaws.{put-then}
 use Rattle.lines.proofs.Short.{reason-short}
+use Rattle.lines.specs.Answer.{errorText}
 use borrow.Author.Needs.{needs}
 use Rattle.lines.proofs.put_error.Statement.{statement}
 use Rattle.lines.proofs.put_error.Tie as tie
@@ -35,6 +36,7 @@ same-length : tie.Need-same-length
 same-length c = search needs
 
 returns : tie.Need-returns
+unfolding errorText
 returns c =
     let a = c .before .before .before .before .before .before .before .before .before .before .before .before .before .before .before .before .before .before .before .before .before .before .before .before .args in
     let one = c .before .before .before .before .before .before .before .before .before .before .before .before .before .before .before .before .before .before .before .before .put in

@@ -4,6 +4,7 @@ use lib.ListN.{take}
 use lib.Seq.{length-take-le}
 use Rattle.wording.proofs.Numeral.{numeral-short}
 use Rattle.wording.proofs.TextLaws.{hex-short, put-then}
+use Rattle.lines.specs.Answer.{messageText}
 use borrow.Author.Needs.{needs}
 use Rattle.lines.proofs.put_message.Statement.{statement}
 use Rattle.lines.proofs.put_message.Tie as tie
@@ -42,6 +43,7 @@ same-length : tie.Need-same-length
 same-length c = search needs
 
 returns : tie.Need-returns
+unfolding messageText
 returns c =
     let a = c .before .before .before .before .before .before .before .before .before .before .before .before .before .before .before .before .before .before .before .before .before .before .before .before .before .before .before .before .before .before .before .before .before .args in
     let one = c .before .before .before .before .before .before .before .before .before .before .before .before .before .before .before .before .before .before .before .before .before .before .before .before .before .before .before .before .put in

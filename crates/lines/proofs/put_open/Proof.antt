@@ -2,6 +2,7 @@
 use native.Mathlib.Omega.{arith}
 use Rattle.wording.proofs.Numeral.{numeral-short}
 use Rattle.wording.proofs.TextLaws.{put-then}
+use Rattle.lines.specs.Answer.{openText}
 use borrow.Author.Needs.{needs}
 use Rattle.lines.proofs.put_open.Statement.{statement}
 use Rattle.lines.proofs.put_open.Tie as tie
@@ -34,6 +35,7 @@ same-length : tie.Need-same-length
 same-length c = search needs
 
 returns : tie.Need-returns
+unfolding openText
 returns c =
     let a = c .before .before .before .before .before .before .before .before .before .before .before .before .before .before .before .before .before .before .before .before .before .before .before .before .args in
     let one = c .before .before .before .before .before .before .before .before .before .before .before .before .before .before .before .before .before .before .before .before .put in

@@ -1,23 +1,24 @@
--- Each call fits the line, and its answer fits the output. Assumes nothing.
+-- Each call fits the line, and is answered as its kind is. Assumes nothing.
 use Prim.Native.Nat.{_-_}
 use native.Mathlib.Omega.{arith}
 use lib.ListN.{drop}
-use borrow.Author.Needs.{needs}
 use Rattle.calls.proofs.Short.{part-short}
+use Rattle.calls.proofs.Serving.{served-none, served-error, served-connect}
+use borrow.Author.Needs.{needs}
 use Rattle.calls.proofs.answers.serve.Statement.{statement}
 use Rattle.calls.proofs.answers.serve.Tie as tie
 
 enum-told : tie.Need-enum-told
 enum-told c = search needs
 
-enum-told-2 : tie.Need-enum-told-2
-enum-told-2 c = search needs
-
 enum-known-call : tie.Need-enum-known-call
 enum-known-call c = search needs
 
 put-error-requires : tie.Need-put-error-requires
 put-error-requires c κs = search needs
+
+enum-told-2 : tie.Need-enum-told-2
+enum-told-2 c = search needs
 
 enum-known-call-2 : tie.Need-enum-known-call-2
 enum-known-call-2 c = search needs
@@ -42,7 +43,7 @@ part-open-end c = let h = rw (c .before .before .call3 .given .1) at (c .before 
 
 open-requires : tie.Need-open-requires
 open-requires c κs = let v = c .before .before .before .before .call3 .given in let h = rw (v .1) at (c .before .before .before .before .before .before .before .before .before .before .pre .0) in
-    (omega (arith, h .2, part-short (v .0 .1 .1 .0 - v .0 .1 .0) (drop (v .0 .1 .0) (c .before .before .before .before .before .before .before .before .before .before .args .line .now))), omega (arith, c .before .before .before .before .before .before .before .before .before .before .pre .2))
+    (omega (arith, h .2, part-short (v .0 .1 .1 .0 - v .0 .1 .0) (drop (v .0 .1 .0) (c .before .before .before .before .before .before .before .before .before .before .args .line .now))), c .before .before .before .before .before .before .before .before .before .before .pre .2)
 
 enum-known-call-4 : tie.Need-enum-known-call-4
 enum-known-call-4 c = search needs
@@ -76,16 +77,16 @@ slice-write-table : tie.Need-slice-write-table
 slice-write-table c = let h = rw (c .before .call5 .given .1) at (c .before .before .before .before .before .before .before .pre .0) in omega (arith, h, c .before .before .before .before .before .before .before .pre .1)
 
 returns : tie.Need-returns
-returns c = search needs
-
-returns-2 : tie.Need-returns-2
-returns-2 c = search needs
+returns c = rw (c .enum-told .given .1) (served-none _ _ _)
 
 same-length : tie.Need-same-length
 same-length c = search needs
 
+returns-2 : tie.Need-returns-2
+returns-2 c = rw (c .before .before .before .before .before .call .given .1) (served-error _ _ _ _ _ _ _ (c .before .before .put-error .ensures))
+
 returns-3 : tie.Need-returns-3
-returns-3 c = search needs
+returns-3 c = rw (c .enum-told2 .given .1) (served-none _ _ _)
 
 same-length-2 : tie.Need-same-length-2
 same-length-2 c = search needs
@@ -94,7 +95,7 @@ same-length-3 : tie.Need-same-length-3
 same-length-3 c = search needs
 
 returns-4 : tie.Need-returns-4
-returns-4 c = search needs
+returns-4 c = rw (c .before .before .before .before .before .before .before .before .before .call2 .given .1) (served-connect _ _ _ _ _ _ _ (c .before .before .before .before .before .before .connect .ensures) (c .before .before .put-connect .ensures))
 
 same-length-4 : tie.Need-same-length-4
 same-length-4 c = search needs
@@ -103,7 +104,7 @@ same-length-5 : tie.Need-same-length-5
 same-length-5 c = search needs
 
 returns-5 : tie.Need-returns-5
-returns-5 c = search needs
+returns-5 c = rw (c .before .before .before .before .before .before .before .before .before .call3 .given .1) (c .before .before .before .before .«open» .ensures)
 
 same-length-6 : tie.Need-same-length-6
 same-length-6 c = search needs
@@ -112,22 +113,22 @@ same-length-7 : tie.Need-same-length-7
 same-length-7 c = search needs
 
 returns-6 : tie.Need-returns-6
-returns-6 c = search needs
+returns-6 c = rw (c .before .before .before .before .before .before .before .before .before .call4 .given .1) (c .before .before .before .before .message .ensures)
 
 same-length-8 : tie.Need-same-length-8
 same-length-8 c = search needs
 
 returns-7 : tie.Need-returns-7
-returns-7 c = search needs
+returns-7 c = rw (c .before .call5 .given .1) (served-none _ _ _)
 
 pub serve-spec : {M : Type 1} → statement M
 serve-spec =
     tie.close
     (tie.spec
     enum-told
-    enum-told-2
     enum-known-call
     put-error-requires
+    enum-told-2
     enum-known-call-2
     connect-requires
     put-connect-requires
@@ -147,8 +148,8 @@ serve-spec =
     mul-table
     slice-write-table
     returns
-    returns-2
     same-length
+    returns-2
     returns-3
     same-length-2
     same-length-3
