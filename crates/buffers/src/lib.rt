@@ -1,7 +1,9 @@
 // The buffers of a file of recorded calls: a line is kept as its bytes come, the waiting output is written, and a chunk is read.
+ghost use mathlib.Core.Path.{_≡_};
 ghost use Prim.Native.Nat.{_≤_};
 ghost use lib.ListN.{length};
 ghost use Rattle.lexing.specs.Line.{Fits};
+ghost use Rattle.buffers.specs.Kept.{Kept, keptCall};
 ghost use Rattle.buffers.specs.Room.{Stands};
 use lexing::Call;
 use lexing::Reason;
@@ -19,7 +21,7 @@ pub struct Place {
 // Keeps the bytes of a part of a line, as far as there is room.
 pub fn keep(line: &mut [u8], place: Place, part: &[u8]) -> Place
     requires { ⌜ Stands (length (now line)) place ⌝ }
-    ensures { λ r. ⌜ Stands (length (now (line .entry))) r ⌝ }
+    ensures { λ r. ⌜ Kept (now (line .entry)) place (now (part .entry)) r (now (line .exit)) × Stands (length (now (line .entry))) r ⌝ }
 {
     let kept = place.kept;
     let room = line.len() - kept;
@@ -45,7 +47,7 @@ pub fn keep(line: &mut [u8], place: Place, part: &[u8]) -> Place
 
 // The call that the kept bytes are. A line that was cut is too long, unless the cut is in its comment.
 pub fn call_of(line: &[u8], cut: bool) -> Call
-    ensures { λ r. ⌜ Fits (length (now (line .entry))) r ⌝ }
+    ensures { λ r. ⌜ (r ≡ keptCall (now (line .entry)) cut) × Fits (length (now (line .entry))) r ⌝ }
 {
     let end = runs::before_comment(line);
     if end < line.len() {

@@ -1,10 +1,10 @@
 -- From what the server's functions and the writers of answers leave to what a call answers. Assumes nothing.
 use mathlib.Core.Path.{_≡_, refl, sym, ap, _∙_}
-use mathlib.Core.Bool.{Bool, true, false}
-use mathlib.Core.List.{List, [], _∷_, _++_}
-use Prim.Native.Nat.{ℕ, zero, suc, _+_, _-_, _*_, _/_, _≤_}
+use mathlib.Core.Bool.{false}
+use mathlib.Core.List.{List, [], _++_}
+use Prim.Native.Nat.{ℕ, zero, suc, _+_, _-_, _/_, _≤_}
 use native.Mathlib.Omega.{arith}
-use lib.ListN.{length, take, drop, replicate, length-append, length-replicate, length-drop}
+use lib.ListN.{length, take, drop, replicate, length-append, length-replicate}
 use lib.Seq.{take-at, take-length, drop-length, take-append-seam, drop-append-seam, drop-nil, length-take-le}
 use Rattle.digits.specs.Digits.{hexBytes}
 use Rattle.digits.proofs.DigitLaws.{hex-count}
@@ -15,7 +15,7 @@ use Rattle.wording.proofs.TextLaws.{put-none}
 use Rattle.lines.specs.Answer.{errorText, connectText, openText, messageText}
 use Rattle.lines.proofs.Short.{error-short, connect-short, open-short, message-short}
 use Rattle.steps.specs.Step.{Outcome, Keeps}
-use Rattle.calls.specs.Served.{Answer, silent, connected, opened, replied, Serves}
+use Rattle.calls.specs.Served.{silent, connected, opened, replied, Serves}
 use Rattle.calls.proofs.Short.{part-short}
 
 -- the bytes that were loaded are the first of their buffer

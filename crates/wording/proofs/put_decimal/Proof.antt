@@ -1,7 +1,4 @@
 -- `io::decimal` makes the digits, and they are copied. Assumes nothing.
-use mathlib.Core.Path.{_≡_}
-use Prim.Native.Nat.{_-_}
-use native.Mathlib.Omega.{arith}
 use borrow.Author.Needs.{needs}
 use Rattle.wording.proofs.put_decimal.Statement.{statement}
 use Rattle.wording.proofs.put_decimal.Tie as tie
