@@ -1,10 +1,16 @@
 -- Where the program stands between two lines.
 use Prim.Native.Nat.{ℕ, _≤_}
+use lib.Dec.{leb}
+use Rattle.words.specs.Below.{pick}
 use Rattle.buffers.specs.declared.Place.{Place}
 
 -- how much of the output may wait before a line
 abbrev pub outFull : ℕ
 outFull = 65536
+
+-- output is written where more than so much waits: how much waits then
+abbrev pub waits : ℕ → ℕ → ℕ
+waits most used = pick (leb used most) used 0
 
 -- between two lines, with a line buffer of so many bytes
 pub record Stands (line : ℕ) (p : Place) : Type 0 where

@@ -4,7 +4,7 @@ ghost use Prim.Native.Nat.{_≤_};
 ghost use lib.ListN.{length};
 ghost use Rattle.lexing.specs.Line.{Fits};
 ghost use Rattle.buffers.specs.Kept.{Kept, keptCall};
-ghost use Rattle.buffers.specs.Room.{Stands};
+ghost use Rattle.buffers.specs.Room.{Stands, waits};
 use lexing::Call;
 use lexing::Reason;
 
@@ -62,7 +62,7 @@ pub fn call_of(line: &[u8], cut: bool) -> Call
 // Writes the waiting output where it is more than so much. Answers how much waits then.
 pub fn written(out: &[u8], used: usize, most: usize) -> usize
     requires { ⌜ used ≤ length (now out) ⌝ }
-    ensures { λ r. ⌜ r ≤ most ⌝ }
+    ensures { λ r. ⌜ (r ≡ waits most used) × (r ≤ most) ⌝ }
 {
     if used <= most {
         return used;

@@ -1,15 +1,20 @@
 -- What a line of a calls file does (README, "Replaying recorded calls"): the answer's text, the table afterwards, and the catalogue that
 -- is lent from there on.
 use mathlib.Core.Path.{_≡_}
+use mathlib.Core.Bool.{false}
 use mathlib.Core.List.{List, [], _++_}
-use Prim.Native.Nat.{ℕ, _+_, _/_, _≤_}
-use lib.ListN.{length, drop, set}
+use Prim.Native.Nat.{ℕ, _+_, _/_, _%_, _≤_}
+use lib.ListN.{length, take, drop, set}
+use Rattle.spans.specs.Laid.{lay}
 use Rattle.digits.specs.Digits.{hexBytes}
 use Rattle.lexing.specs.Line.{catalogueMost, between}
 use Rattle.lexing.specs.declared.Call.{Call}
 use Rattle.lexing.specs.declared.Call.the-variants as call
 use Rattle.wording.specs.Text.{Put}
 use Rattle.lines.specs.Answer.{errorText, connectText, openText, messageText}
+use Rattle.buffers.specs.Kept.{keptCall}
+use Rattle.buffers.specs.Room.{outFull, waits}
+use Rattle.buffers.specs.declared.Place.{Place}
 use Rattle.calls.specs.Room.{answerMost}
 use Rattle.steps.specs.Step.{Outcome, sourcesOf, connectStep, openStep, messageStep}
 
@@ -74,3 +79,23 @@ pub record Lends (l : Lent) (r : ℕ) (exit : List ℕ) : Type 0 where
   pub sized : r ≡ l .size
   pub left : exit ≡ l .buffer
   pub fits : r ≤ catalogueMost
+
+-- the bytes of a line that are kept, the call that they are, and its answer with a lent catalogue
+abbrev pub textOf : List ℕ → Place → List ℕ
+textOf line p = take (p .kept) line
+
+abbrev pub callIn : List ℕ → Place → Call
+callIn line p = keptCall (textOf line p) (p .cut)
+
+abbrev pub answerIn : List ℕ → Place → List ℕ → List ℕ → Answer
+answerIn line p t s = answerTo (callIn line p) (textOf line p) (p .number) t s
+
+-- a line is served, from a table, a catalogue's buffer and an output to those afterwards, and the next line begins
+pub record LineServed (line : List ℕ) (p : Place) (t s out : List ℕ) (r : Place) (t′ s′ out′ : List ℕ) : Type 0 where
+  pub lent : Lends (lentBy (callIn line p) (textOf line p) (lentOf (p .catalogue) s)) (r .catalogue) s′
+  pub words : t′ ≡ answerIn line p t (take (r .catalogue) s′) .words
+  pub said : out′ ≡ lay out (p .used) (answerIn line p t (take (r .catalogue) s′) .text)
+  pub used : r .used ≡ waits outFull (p .used + length (answerIn line p t (take (r .catalogue) s′) .text))
+  pub number : r .number ≡ (p .number + 1) % 18446744073709551616
+  pub kept : r .kept ≡ 0
+  pub cut : r .cut ≡ false

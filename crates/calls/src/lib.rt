@@ -1,6 +1,7 @@
 // A file of recorded calls is read in chunks, each call is served, and the answers are written by the buffer.
 ghost use lib.ListN.{length};
 ghost use Rattle.calls.specs.Room.{Sized};
+ghost use Rattle.calls.specs.Served.{LineServed};
 ghost use Rattle.buffers.specs.Room.{Stands};
 use buffers::Place;
 
@@ -17,7 +18,7 @@ fn serve(
     out: &mut [u8],
 ) -> Place
     requires { ⌜ Stands (length (now line)) place × Sized (length (now table)) (length (now catalogue)) (length (now out)) ⌝ }
-    ensures { λ r. ⌜ Stands (length (now (line .entry))) r ⌝ }
+    ensures { λ r. ⌜ LineServed (now (line .entry)) place (now (table .entry)) (now (catalogue .entry)) (now (out .entry)) r (now (table .exit)) (now (catalogue .exit)) (now (out .exit)) × Stands (length (now (line .entry))) r ⌝ }
 {
     let kept = place.kept;
     let number = place.number;

@@ -1,4 +1,6 @@
 -- The call is served, and what is lent and what waits stay inside their buffers. Assumes nothing.
+use mathlib.Core.Path.{_≡_, refl}
+use Prim.Native.Nat.{_-_}
 use native.Mathlib.Omega.{arith}
 use borrow.Author.Needs.{needs}
 use Rattle.calls.proofs.serve.Statement.{statement}
@@ -47,7 +49,23 @@ same-length-3 : tie.Need-same-length-3
 same-length-3 c = search needs
 
 returns : tie.Need-returns
-returns c = record { kept = omega arith; lent = c .before .before .before .before .before .before .before .before .before .before .before .before .before .before .lend .ensures .fits; waiting = c .before .written .ensures }
+returns c =
+    let p = c .before .before .before .before .before .before .before .before .before .before .before .before .before .before .before .before .before .before .before .before .before .before .args .place in
+    let same : p .kept - 0 ≡ p .kept = omega arith in
+    let whole : c .before .before .before .before .before .before .before .before .before .before .before .before .before .before .lend .result - 0 ≡ c .before .before .before .before .before .before .before .before .before .before .before .before .before .before .lend .result = omega arith in
+    let e = rw same at (c .before .before .before .before .before .before .before .before .before .before .before .before .before .before .before .before .call-of .ensures .0) in
+    let k = rw (e, same, whole) at (c .before .before .before .before .before .before .before .serve .ensures) in (
+      record {
+        lent = rw (e, same) at (c .before .before .before .before .before .before .before .before .before .before .before .before .before .before .lend .ensures);
+        words = k .kept;
+        said = k .said .laid;
+        used = rw (k .said .next) at (c .before .written .ensures .0);
+        number = c .wrapping-add-u64 .ensures;
+        kept = refl;
+        cut = refl;
+      },
+      record { kept = omega arith; lent = c .before .before .before .before .before .before .before .before .before .before .before .before .before .before .lend .ensures .fits; waiting = c .before .written .ensures .1 },
+    )
 
 pub serve-spec : {M : Type 1} → statement M
 serve-spec =
