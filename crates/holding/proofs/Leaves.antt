@@ -22,7 +22,8 @@ use Rattle.leaves.specs.Parts.{contentAt, relationAt, leafOf}
 use Rattle.leaves.specs.declared.LeafAt.the-variants.{LeafTo, NoLeaf}
 use Rattle.leaves.proofs.LeafLaws.{pick-inv, no-leaf}
 use Rattle.leaves.proofs.LeafWords.{sizeIn, endIn, localeIn, relation-words, content-words}
-use Rattle.holding.specs.Told.{told, countAt, unitsEnd, localeAt, relationTold, contentTold, leafTold}
+use Rattle.verdicts.specs.Told.{told}
+use Rattle.holding.specs.Told.{countAt, unitsEnd, localeAt, relationTold, contentTold, leafTold}
 use Rattle.matching.specs.Inside.{TextInside, RowInside}
 use Rattle.holding.specs.There.{LeafThere}
 

@@ -29,7 +29,8 @@ use Rattle.restriction.specs.Answer.{isTree}
 use Rattle.restriction.proofs.TreeFacts.{held}
 use Rattle.restriction.proofs.Induction.{then-inv}
 use Rattle.restriction.proofs.TreeLaws.{no-levels, no-nodes, no-head, node-branch, node-not, node-leaf}
-use Rattle.holding.specs.Told.{told, turned, withChild, leafTold}
+use Rattle.verdicts.specs.Told.{told, turned, withChild}
+use Rattle.holding.specs.Told.{leafTold}
 use Rattle.holding.specs.There.{LeafThere, Found, Tells}
 use Rattle.holding.proofs.Leaves.{word-from, left-past}
 

@@ -11,7 +11,7 @@ use Rattle.leaves.specs.declared.LeafAt.the-variants.{LeafTo}
 use Rattle.restriction.specs.Limits.{bytesMost}
 use Rattle.restriction.specs.Holds.{holds}
 use Rattle.restriction.specs.Reader.{TreeRead, Read, branchRead, readTree}
-use Rattle.holding.specs.Told.{told}
+use Rattle.verdicts.specs.Told.{told}
 
 -- a leaf of a kind is read at a place
 pub record LeafThere (kind : ℕ) (s : List ℕ) (at : ℕ) : Type 0 where

@@ -1,31 +1,17 @@
--- What the code says of a node: one number for the place after it and whether it holds; and what the words of a leaf at a place say.
+-- What the code says of a leaf: what the words at its place say.
 -- proofs/Leaves.antt shows that these are the words of the leaf that is read there.
-use mathlib.Core.Bool.{Bool}
 use mathlib.Core.List.{List}
-use Prim.Native.Nat.{ℕ, _+_, _-_, _*_, _%_}
-use lib.Dec.{eqb}
+use Prim.Native.Nat.{ℕ, _+_, _*_}
 use lib.ListN.{take, drop}
-use Rattle.words.specs.Below.{pick, both, either}
 use Rattle.words.specs.Word.{numberAt, halves}
 use Rattle.catalogue.specs.Plain.{Row}
 use Rattle.catalogue.specs.Places.{textOf}
 use Rattle.catalogue.specs.declared.Fields.{Fields}
+use Rattle.verdicts.specs.Told.{told}
 use Rattle.leaves.specs.Padding.{padding}
 use Rattle.leaves.specs.Property.{ofNumbers, ofTexts}
 use Rattle.leaves.specs.Holds.{relationHolds, phraseHolds, leafHolds}
 use Rattle.leaves.specs.Parts.{leafAt, withLeaf, leafOf}
-
--- twice the place after a node, and one more where it holds
-abbrev pub told : Bool → ℕ → ℕ
-told holds end = 2 * end + pick holds 1 0
-
--- the same place with the other answer
-abbrev pub turned : ℕ → ℕ
-turned answer = pick (eqb (answer % 2) 1) (answer - 1) (answer + 1)
-
--- an and holds where it held so far and one child more does, an or where one of the two does
-abbrev pub withChild : ℕ → Bool → Bool → Bool
-withChild kind before child = pick (eqb kind 1) (both before child) (either before child)
 
 -- a property leaf at a place: its relation, its property and its value
 abbrev pub relationTold : List ℕ → ℕ → Fields → ℕ

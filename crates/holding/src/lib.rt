@@ -2,14 +2,14 @@
 // are read at their places.
 ghost use mathlib.Core.Path.{_≡_};
 ghost use mathlib.Core.Bool.{true};
-ghost use Prim.Native.Nat.{_+_, _^_, _≤_, _<_};
+ghost use Prim.Native.Nat.{_+_, _≤_};
 ghost use lib.ListN.{length};
 ghost use Rattle.catalogue.specs.Places.{rowOf};
 ghost use Rattle.matching.specs.Inside.{RowInside};
 ghost use Rattle.restriction.specs.Holds.{heldBy};
 ghost use Rattle.restriction.specs.Reader.{restriction};
 ghost use Rattle.restriction.specs.Answer.{isTree};
-ghost use Rattle.holding.specs.Told.{told, turned, withChild, localeAt, relationTold, contentTold, leafTold};
+ghost use Rattle.holding.specs.Told.{localeAt, relationTold, contentTold, leafTold};
 ghost use Rattle.holding.specs.There.{LeafThere, NodeThere, NodeTold, ListThere, ListTold};
 use catalogue::Fields;
 
@@ -27,41 +27,6 @@ const HEAD_SIZE: usize = 8;
 
 const LIST_HEAD: usize = 12;
 
-// A node's answer in one number, since two would be passed in memory: twice the place after the node, and one more where it holds.
-fn told(holds: bool, end: usize) -> usize
-    requires { ⌜ end < 2 ^ 63 ⌝ }
-    ensures { λ r. ⌜ r ≡ told holds end ⌝ }
-{
-    let twice = 2 * end;
-    if holds {
-        return twice + 1;
-    }
-    twice
-}
-
-// The answer of a not, from that of its child.
-fn turned(answer: usize) -> usize
-    ensures { λ r. ⌜ r ≡ turned answer ⌝ }
-{
-    if answer % 2 == 1 {
-        return answer - 1;
-    }
-    answer + 1
-}
-
-// What an and or an or holds with one child more.
-fn with_child(kind: u32, before: bool, child: bool) -> bool
-    ensures { λ r. ⌜ r ≡ withChild kind before child ⌝ }
-{
-    if kind == AND {
-        return leaves::both(before, child);
-    }
-    if before {
-        return true;
-    }
-    child
-}
-
 // The property leaf at a place.
 fn relation_told(s: &[u8], at: usize, row: Fields) -> usize
     requires { ⌜ at + 44 ≤ length (now s) ⌝ }
@@ -71,7 +36,7 @@ fn relation_told(s: &[u8], at: usize, row: Fields) -> usize
     let property = words::word(s, at + 32);
     let value = words::word(s, at + 40) as u64;
     let mine = matching::number_of(property, row);
-    told(matching::relation_holds(relop, mine, value), at + 44)
+    verdicts::told(matching::relation_holds(relop, mine, value), at + 44)
 }
 
 // The content leaf at a place.
@@ -88,7 +53,7 @@ fn content_told(s: &[u8], at: usize, catalogue: &[u8], row: Fields) -> usize
     let method = words::word(s, locale + 4);
     let text = matching::text_of(property, row);
     let holds = matching::phrase_holds(&s[start..end], method, catalogue, text);
-    told(holds, locale + 8)
+    verdicts::told(holds, locale + 8)
 }
 
 // The leaf of a kind at a place.
@@ -114,7 +79,7 @@ fn node_told(s: &[u8], at: usize, levels: u32, catalogue: &[u8], row: Fields) ->
     }
     if kind == NOT {
         let child = at + HEAD_SIZE;
-        return turned(node_told(s, child, below, catalogue, row));
+        return verdicts::turned(node_told(s, child, below, catalogue, row));
     }
     leaf_told(kind, s, at, catalogue, row)
 }
@@ -130,11 +95,11 @@ fn list_told(kind: u32, s: &[u8], at: usize, levels: u32, catalogue: &[u8], row:
     while 0 < left {
         let child = place + leaves::padding(place);
         let answer = node_told(s, child, levels, catalogue, row);
-        holds = with_child(kind, holds, answer % 2 == 1);
+        holds = verdicts::with_child(kind, holds, answer % 2 == 1);
         place = answer / 2;
         left -= 1;
     }
-    told(holds, place)
+    verdicts::told(holds, place)
 }
 
 // Whether a tree holds for a row. Most trees are a list at their root.

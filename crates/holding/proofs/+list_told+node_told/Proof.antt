@@ -10,9 +10,9 @@ use Rattle.holding.proofs.node_told.Reads as node-told
 use Rattle.holding.proofs.node_told.Kinds as node-told-kinds
 use Rattle.holding.proofs.+list_told+node_told.Lts-node_told as node-told-lts
 use Rattle.holding.proofs.leaf_told.Reads as leaf-told-reads
-use Rattle.holding.proofs.told.Reads as told-reads
-use Rattle.holding.proofs.turned.Reads as turned-reads
-use Rattle.holding.proofs.with_child.Reads as with-child-reads
+use Rattle.verdicts.proofs.told.Reads as told-reads
+use Rattle.verdicts.proofs.turned.Reads as turned-reads
+use Rattle.verdicts.proofs.with_child.Reads as with-child-reads
 use Rattle.leaves.proofs.padding.Reads as padding-reads
 use Rattle.restriction.proofs.is_branch.Reads as is-branch-reads
 use Rattle.words.proofs.word.Reads as word-reads

@@ -1,7 +1,7 @@
 -- The kind settles which of the two it is. Assumes nothing.
 use borrow.Author.Needs.{needs}
-use Rattle.holding.proofs.with_child.Statement.{statement}
-use Rattle.holding.proofs.with_child.Tie as tie
+use Rattle.verdicts.proofs.with_child.Statement.{statement}
+use Rattle.verdicts.proofs.with_child.Tie as tie
 use borrow.Author.Tests.{eq-eqb, ne-eqb}
 
 both-requires : tie.Need-both-requires

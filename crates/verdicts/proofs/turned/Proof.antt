@@ -1,7 +1,7 @@
 -- The test of the last bit settles the choice. Assumes nothing.
 use borrow.Author.Needs.{needs}
-use Rattle.holding.proofs.turned.Statement.{statement}
-use Rattle.holding.proofs.turned.Tie as tie
+use Rattle.verdicts.proofs.turned.Statement.{statement}
+use Rattle.verdicts.proofs.turned.Tie as tie
 use borrow.Author.Tests.{eq-eqb, ne-eqb}
 
 sub-result : tie.Need-sub-result

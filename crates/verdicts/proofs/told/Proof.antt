@@ -1,7 +1,7 @@
 -- Each arm is the number that the answer says. Assumes nothing.
 use borrow.Author.Needs.{needs}
-use Rattle.holding.proofs.told.Statement.{statement}
-use Rattle.holding.proofs.told.Tie as tie
+use Rattle.verdicts.proofs.told.Statement.{statement}
+use Rattle.verdicts.proofs.told.Tie as tie
 use native.Mathlib.Omega.{arith}
 
 mul-twice : tie.Need-mul-twice
