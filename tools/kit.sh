@@ -21,7 +21,9 @@ kit_clang() {
 kit_link() {
     local program=$1
     shift
-    "$kit/on/$machine/bin/rattle-link" --target x86_64-unknown-linux-gnu --toolchain "$kit_tools" -o "$program" "$@" 2>/dev/null
+    local said
+    said=$("$kit/on/$machine/bin/rattle-link" --target x86_64-unknown-linux-gnu --toolchain "$kit_tools" -o "$program" "$@" 2>&1) ||
+        { echo "$said" >&2; return 1; }
 }
 
 # c_program PROGRAM SOURCE.. [ARCHIVE..]: a C program, by the machine's own compiler on x86-64 and by the kit's elsewhere
@@ -46,16 +48,19 @@ c_program() {
     kit_link "$program" "${objects[@]}"
 }
 
-# run_program PROGRAM [ARGUMENT..]
+# run_program PROGRAM [ARGUMENT..]: what rt or the kit linked, over the kit's own C library
 run_program() {
-    if [ "$machine" = x86_64 ]; then
-        "$@"
-    else
-        "$kit_tools/bin/qemu-x86_64" "$kit_tools/lib/ld-linux-x86-64.so.2" --library-path "$kit_tools/lib" "$@"
-    fi
+    local emulator=()
+    [ "$machine" = x86_64 ] || emulator=("$kit_tools/bin/qemu-x86_64")
+    ${emulator[@]+"${emulator[@]}"} "$kit_tools/lib/ld-linux-x86-64.so.2" --library-path "$kit_tools/lib" "$@"
 }
 
-# A C program that links nothing of this project's needs no emulator where the machine has a compiler of its own.
+# run_c PROGRAM [ARGUMENT..]: what c_program made
+run_c() {
+    if [ "$machine" = x86_64 ] && [ -n "$own_compiler" ]; then "$@"; else run_program "$@"; fi
+}
+
+# A C program without the library, which is for x86-64, needs no emulator where the machine has a compiler of its own.
 
 # plain_program PROGRAM SOURCE..
 plain_program() {
@@ -74,6 +79,8 @@ replay_proved() {
         return
     fi
     mkdir -p "$1/target"
+    # what is edited from here on is newer than the program
+    touch "$1/target/replay.began"
     (cd "$1" && rt check replay) >"$1/target/replay.log" 2>&1 || { cat "$1/target/replay.log" >&2; return 1; }
-    touch "$program"
+    touch -r "$1/target/replay.began" "$program"
 }

@@ -1,7 +1,8 @@
--- Where the program stands between two lines.
+-- Where the program stands in a file.
 use Prim.Native.Nat.{ℕ, _≤_}
 use lib.Dec.{leb}
 use Rattle.words.specs.Below.{pick}
+use Rattle.lexing.specs.Line.{catalogueMost}
 use Rattle.buffers.specs.declared.Place.{Place}
 
 -- how much of the output may wait before a line
@@ -12,8 +13,8 @@ outFull = 65536
 abbrev pub waits : ℕ → ℕ → ℕ
 waits most used = pick (leb used most) used 0
 
--- between two lines, with a line buffer of so many bytes
+-- with a line buffer of so many bytes: no more is kept, lent or waiting than may be
 pub record Stands (line : ℕ) (p : Place) : Type 0 where
   pub kept : p .kept ≤ line
-  pub lent : p .catalogue ≤ 32768
+  pub lent : p .catalogue ≤ catalogueMost
   pub waiting : p .used ≤ outFull

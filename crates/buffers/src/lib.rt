@@ -67,7 +67,9 @@ pub fn written(out: &[u8], used: usize, most: usize) -> usize
     if used <= most {
         return used;
     }
-    io::write_all(1, &out[0..used]);
+    if !io::write_all(1, &out[0..used]) {
+        os::fail(b"replay: standard output");
+    }
     0
 }
 

@@ -46,8 +46,8 @@ answerTo (call.Open seat first last) line number t s = opened (openStep (sources
 answerTo (call.Message seat room first last) line number t s = replied (messageStep (sourcesOf s) t seat (hexBytes (between first last line)) room)
 answerTo (call.Word index value) line number t s = silent (set t index value)
 
--- the answer as what a function leaves: the text is laid in the output from a place on, and the place after it is told; it has the room
--- that every answer has
+-- the answer as what a function leaves: the text is laid in the output from a place on, and the place after it is told; it takes
+-- no more than `answerMost` bytes
 pub record Serves (a : Answer) (used r : ℕ) (words before after : List ℕ) : Type 0 where
   pub kept : words ≡ a .words
   pub said : Put (a .text) used r before after
@@ -74,28 +74,28 @@ lentBy (call.Open seat first last) line l = l
 lentBy (call.Message seat room first last) line l = l
 lentBy (call.Word index value) line l = l
 
--- the same as what a function leaves; it is no more than a catalogue may have
+-- the same as what a function leaves; the size is at most that of a catalogue
 pub record Lends (l : Lent) (r : ℕ) (exit : List ℕ) : Type 0 where
   pub sized : r ≡ l .size
   pub left : exit ≡ l .buffer
   pub fits : r ≤ catalogueMost
 
 -- the bytes of a line that are kept, the call that they are, and its answer with a lent catalogue
-abbrev pub textOf : List ℕ → Place → List ℕ
-textOf line p = take (p .kept) line
+abbrev pub bytesKept : List ℕ → Place → List ℕ
+bytesKept line p = take (p .kept) line
 
-abbrev pub callIn : List ℕ → Place → Call
-callIn line p = keptCall (textOf line p) (p .cut)
+abbrev pub callKept : List ℕ → Place → Call
+callKept line p = keptCall (bytesKept line p) (p .cut)
 
-abbrev pub answerIn : List ℕ → Place → List ℕ → List ℕ → Answer
-answerIn line p t s = answerTo (callIn line p) (textOf line p) (p .number) t s
+abbrev pub answerKept : List ℕ → Place → List ℕ → List ℕ → Answer
+answerKept line p t s = answerTo (callKept line p) (bytesKept line p) (p .number) t s
 
 -- a line is served, from a table, a catalogue's buffer and an output to those afterwards, and the next line begins
 pub record LineServed (line : List ℕ) (p : Place) (t s out : List ℕ) (r : Place) (t′ s′ out′ : List ℕ) : Type 0 where
-  pub lent : Lends (lentBy (callIn line p) (textOf line p) (lentOf (p .catalogue) s)) (r .catalogue) s′
-  pub words : t′ ≡ answerIn line p t (take (r .catalogue) s′) .words
-  pub said : out′ ≡ lay out (p .used) (answerIn line p t (take (r .catalogue) s′) .text)
-  pub used : r .used ≡ waits outFull (p .used + length (answerIn line p t (take (r .catalogue) s′) .text))
+  pub lent : Lends (lentBy (callKept line p) (bytesKept line p) (lentOf (p .catalogue) s)) (r .catalogue) s′
+  pub words : t′ ≡ answerKept line p t (take (r .catalogue) s′) .words
+  pub said : out′ ≡ lay out (p .used) (answerKept line p t (take (r .catalogue) s′) .text)
+  pub used : r .used ≡ waits outFull (p .used + length (answerKept line p t (take (r .catalogue) s′) .text))
   pub number : r .number ≡ (p .number + 1) % 18446744073709551616
   pub kept : r .kept ≡ 0
   pub cut : r .cut ≡ false

@@ -1,4 +1,4 @@
-// A file of recorded calls is read in chunks, each call is served, and the answers are written by the buffer.
+// A file of recorded calls is read in chunks, each call is served, and the answers are written a buffer at a time.
 ghost use lib.ListN.{length};
 ghost use Rattle.calls.specs.Room.{Sized};
 ghost use Rattle.calls.specs.Served.{LineServed};
@@ -17,7 +17,7 @@ fn serve(
     catalogue: &mut [u8],
     out: &mut [u8],
 ) -> Place
-    requires { ⌜ Stands (length (now line)) place × Sized (length (now table)) (length (now catalogue)) (length (now out)) ⌝ }
+    requires { ⌜ Stands (length (now line)) place × Sized (length (now line)) (length (now table)) (length (now catalogue)) (length (now out)) ⌝ }
     ensures { λ r. ⌜ LineServed (now (line .entry)) place (now (table .entry)) (now (catalogue .entry)) (now (out .entry)) r (now (table .exit)) (now (catalogue .exit)) (now (out .exit)) × Stands (length (now (line .entry))) r ⌝ }
 {
     let kept = place.kept;
@@ -53,7 +53,7 @@ fn serve_chunk(
     catalogue: &mut [u8],
     out: &mut [u8],
 ) -> Place
-    requires { ⌜ Stands (length (now line)) place × Sized (length (now table)) (length (now catalogue)) (length (now out)) ⌝ }
+    requires { ⌜ Stands (length (now line)) place × Sized (length (now line)) (length (now table)) (length (now catalogue)) (length (now out)) ⌝ }
     ensures { λ r. ⌜ Stands (length (now (line .entry))) r ⌝ }
 {
     let mut here = place;
@@ -82,7 +82,7 @@ fn serve_file(
     catalogue: &mut [u8],
     out: &mut [u8],
 )
-    requires { ⌜ Sized (length (now table)) (length (now catalogue)) (length (now out)) ⌝ }
+    requires { ⌜ Sized (length (now line)) (length (now table)) (length (now catalogue)) (length (now out)) ⌝ }
 {
     let mut place = Place {
         number: 1,

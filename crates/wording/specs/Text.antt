@@ -18,7 +18,7 @@ unfoldable pub numeral : ℕ → ℕ → List ℕ
 numeral zero n = []
 numeral (suc k) n = pick (ltb n 10) ((48 + n) ∷ []) (numeral k (n / 10) ++ ((48 + n % 10) ∷ []))
 
--- "Numbers are decimal": those of the answers have 64 bits at most, so 20 digits
+-- a number of an answer: of 64 bits at most, so of 20 digits
 abbrev pub decimalText : ℕ → List ℕ
 decimalText n = numeral 20 n
 

@@ -20,8 +20,17 @@ part-write-all-end c = search needs
 write-all-requires : tie.Need-write-all-requires
 write-all-requires c κs = search needs
 
+slice-aggregate-fail : tie.Need-slice-aggregate-fail
+slice-aggregate-fail c = search needs
+
+fail-requires : tie.Need-fail-requires
+fail-requires c κs = search needs
+
 returns-2 : tie.Need-returns-2
-returns-2 c = (rw (lt-leb (c .before .before .before .before .args .used) (c .before .before .before .before .args .most) (omega (arith, c .before .before .if1 .left))), omega arith)
+returns-2 c = (rw (lt-leb (c .before .before .before .before .before .before .before .args .used) (c .before .before .before .before .before .before .before .args .most) (omega (arith, c .before .before .before .before .before .if1 .left))), omega arith)
+
+returns-3 : tie.Need-returns-3
+returns-3 c = (rw (lt-leb (c .before .before .before .before .before .args .used) (c .before .before .before .before .before .args .most) (omega (arith, c .before .before .before .if1 .left))), omega arith)
 
 pub written-spec : {M : Type 1} → statement M
 written-spec =
@@ -32,4 +41,7 @@ written-spec =
     part-write-all-start
     part-write-all-end
     write-all-requires
-    returns-2)
+    slice-aggregate-fail
+    fail-requires
+    returns-2
+    returns-3)
