@@ -1,5 +1,5 @@
-# Sourced by the scripts that compile, link or run programs: finds the Rattle kit, and hides whether the machine is x86-64,
-# where programs run as they are, or Arm, where the kit's emulator runs them.
+# Sourced by the scripts that compile, link or run programs: finds the Rattle kit, and hides whether the machine is x86-64 or Arm,
+# where the kit's emulator runs the programs.
 kit=${RATTLE_HOME:-$(dirname "$(dirname "$(rt doc)")")}
 machine=$(uname -m)
 kit_tools=$kit/on/$machine/toolchain

@@ -3,11 +3,8 @@ use mathlib.Core.Path.{_≡_, sym, _∙_}
 use mathlib.Core.List.{List}
 use Prim.Native.Nat.{ℕ}
 use Rattle.buffers.specs.declared.Place.{Place}
-use Rattle.wording.specs.Text.{Put}
+use Rattle.wording.proofs.TextLaws.{put-once}
 use Rattle.calls.specs.Served.{Answer, Serves, Lent, Lends, LineServed}
-
-pub put-once : (text : List ℕ) (at r r′ : ℕ) (a b b′ : List ℕ) → Put text at r a b → Put text at r′ a b′ → (r ≡ r′) × (b ≡ b′)
-put-once text at r r′ a b b′ p q = (p .next ∙ sym (q .next), p .laid ∙ sym (q .laid))
 
 pub serves-once : (a : Answer) (used r r′ : ℕ) (w w′ before after after′ : List ℕ) → Serves a used r w before after → Serves a used r′ w′ before after′
     → (r ≡ r′) × (w ≡ w′) × (after ≡ after′)

@@ -88,6 +88,10 @@ put-then {s} {t} {at} {m} {r} {a} p q h = record {
   laid = q .laid ∙ rw (p .laid, p .next) (lay-join a at s t (omega (arith, p .next)));
 }
 
+-- a text is laid in one way
+pub put-once : (text : List ℕ) (at r r′ : ℕ) (a b b′ : List ℕ) → Put text at r a b → Put text at r′ a b′ → (r ≡ r′) × (b ≡ b′)
+put-once text at r r′ a b b′ p q = (p .next ∙ sym (q .next), p .laid ∙ sym (q .laid))
+
 -- no text
 pub put-none : (at : ℕ) (a : List ℕ) → Put [] at at a a
 unfolding lay
