@@ -23,16 +23,19 @@ pub record Answer : Type 0 where
   pub text : List ℕ
   pub words : List ℕ
 
+-- no line is answered, as for a catalogue, a word of the table and a line without words
 abbrev pub silent : List ℕ → Answer
 silent t = record { text = []; words = t }
 
+-- "`connect REFUSAL`"
 abbrev pub connected : Outcome → Answer
 connected o = record { text = connectText (o .refusal); words = o .words }
 
+-- "`open REFUSAL HANDLE`"
 abbrev pub opened : Outcome → Answer
 opened o = record { text = openText (o .refusal) (o .handle); words = o .words }
 
--- the bytes of the reply alone are told: none past them changes, so no answer ends in ` spilled`
+-- "`message REFUSAL COUNT HEX`": the bytes of the reply alone are told; none past them changes, so no answer ends in ` spilled`
 abbrev pub replied : Outcome → Answer
 replied o = record { text = messageText (o .refusal) (length (o .reply)) (o .reply); words = o .words }
 
@@ -58,6 +61,7 @@ pub record Lent : Type 0 where
   pub size : ℕ
   pub buffer : List ℕ
 
+-- the first so many bytes of a buffer
 abbrev pub lentOf : ℕ → List ℕ → Lent
 lentOf size buffer = record { size = size; buffer = buffer }
 
@@ -90,7 +94,7 @@ callKept line p = keptCall (bytesKept line p) (p .cut)
 abbrev pub answerKept : List ℕ → Place → List ℕ → List ℕ → Answer
 answerKept line p t s = answerTo (callKept line p) (bytesKept line p) (p .number) t s
 
--- a line is served, from a table, a catalogue's buffer and an output to those afterwards, and the next line begins
+-- a line is served, from a table, a catalogue's buffer and an output to those afterwards, and the next line begins; its number has 64 bits
 pub record LineServed (line : List ℕ) (p : Place) (t s out : List ℕ) (r : Place) (t′ s′ out′ : List ℕ) : Type 0 where
   pub lent : Lends (lentBy (callKept line p) (bytesKept line p) (lentOf (p .catalogue) s)) (r .catalogue) s′
   pub words : t′ ≡ answerKept line p t (take (r .catalogue) s′) .words

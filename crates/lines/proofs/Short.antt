@@ -1,16 +1,22 @@
 -- How long an answer is. Assumes nothing.
 use mathlib.Core.Bool.{Bool, true, false}
+use mathlib.Core.Path.{_≡_}
 use mathlib.Core.List.{List, _++_}
 use Prim.Native.Nat.{ℕ, _+_, _*_, _≤_}
 use native.Mathlib.Omega.{arith}
 use lib.ListN.{length, take, drop, length-append}
 use Rattle.lexing.specs.declared.Reason.{Reason}
 use Rattle.lexing.specs.declared.Reason.the-variants.{UnknownCall, MissingWord, ExtraWord, BadNumber, BadHex, TooLong, NoSuchWord}
-use Rattle.wording.specs.Text.{decimalText, hexText, changed}
+use Rattle.wording.specs.Text.{Put, decimalText, hexText, changed}
 use Rattle.wording.proofs.Numeral.{numeral-short}
 use Rattle.wording.proofs.TextLaws.{hex-short}
 use Rattle.lines.specs.Answer.{space, feed, reasonText, errorText, connectText, openText, endText, messageText}
 use Rattle.lines.specs.Room.{plain}
+
+-- the room that a word and a number leave
+pub room-after : (v room : ℕ) {s : List ℕ} {at m r : ℕ} {a b c : List ℕ} → Put s at m a b → Put (decimalText v) m r b c
+    → at + length s + 20 + room ≤ length a → length b ≡ length a → length c ≡ length b → r + room ≤ length c
+room-after v room p q h e f = omega (arith, p .next, q .next, numeral-short 20 v, h, e, f)
 
 pub reason-short : (r : Reason) → length (reasonText r) ≤ 12
 reason-short UnknownCall = omega arith

@@ -25,6 +25,7 @@ reasonText BadHex = 98 ∷ 97 ∷ 100 ∷ 32 ∷ 104 ∷ 101 ∷ 120 ∷ []
 reasonText TooLong = 116 ∷ 111 ∷ 111 ∷ 32 ∷ 108 ∷ 111 ∷ 110 ∷ 103 ∷ []
 reasonText NoSuchWord = 110 ∷ 111 ∷ 32 ∷ 115 ∷ 117 ∷ 99 ∷ 104 ∷ 32 ∷ 119 ∷ 111 ∷ 114 ∷ 100 ∷ []
 
+-- the first word of an answer to a line that is no call
 abbrev pub errorName : List ℕ
 errorName = 101 ∷ 114 ∷ 114 ∷ 111 ∷ 114 ∷ []
 

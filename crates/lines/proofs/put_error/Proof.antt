@@ -2,7 +2,7 @@
 use native.Mathlib.Omega.{arith}
 use Rattle.wording.proofs.Numeral.{numeral-short}
 use Rattle.wording.proofs.TextLaws.{put-then}
-use Rattle.lines.proofs.Short.{reason-short}
+use Rattle.lines.proofs.Short.{room-after, reason-short}
 use Rattle.lines.specs.Answer.{errorText}
 use borrow.Author.Needs.{needs}
 use Rattle.lines.proofs.put_error.Statement.{statement}
@@ -21,7 +21,10 @@ slice-aggregate-put-2 : tie.Need-slice-aggregate-put-2
 slice-aggregate-put-2 c = search needs
 
 put-requires-2 : tie.Need-put-requires-2
-put-requires-2 c κs = omega (arith, c .before .before .before .before .put-decimal .ensures .next, c .before .before .before .before .put-decimal .kept, numeral-short 20 (c .before .before .before .before .before .before .before .before .before .before .before .before .args .line), c .before .before .before .before .before .before .before .before .put .ensures .next, c .before .before .before .before .before .before .before .before .put .kept, c .before .before .before .before .before .before .before .before .before .before .before .before .pre)
+put-requires-2 c κs =
+    let one = c .before .before .before .before .before .before .before .before .put in
+    let two = c .before .before .before .before .put-decimal in
+    room-after (c .before .before .before .before .before .before .before .before .before .before .before .before .args .line) 1 (one .ensures) (two .ensures) (omega (arith, c .before .before .before .before .before .before .before .before .before .before .before .before .pre)) (one .kept .0) (two .kept .0)
 
 put-reason-requires : tie.Need-put-reason-requires
 put-reason-requires c κs = omega (arith, c .before .before .before .put2 .ensures .next, c .before .before .before .put2 .kept, c .before .before .before .before .before .before .before .before .put-decimal .ensures .next, c .before .before .before .before .before .before .before .before .put-decimal .kept, numeral-short 20 (c .before .before .before .before .before .before .before .before .before .before .before .before .before .before .before .before .args .line), c .before .before .before .before .before .before .before .before .before .before .before .before .put .ensures .next, c .before .before .before .before .before .before .before .before .before .before .before .before .put .kept, c .before .before .before .before .before .before .before .before .before .before .before .before .before .before .before .before .pre)

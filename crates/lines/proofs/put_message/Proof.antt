@@ -5,6 +5,7 @@ use lib.Seq.{length-take-le}
 use Rattle.wording.proofs.Numeral.{numeral-short}
 use Rattle.wording.proofs.TextLaws.{hex-short, put-then}
 use Rattle.lines.specs.Answer.{messageText}
+use Rattle.lines.proofs.Short.{room-after}
 use borrow.Author.Needs.{needs}
 use Rattle.lines.proofs.put_message.Statement.{statement}
 use Rattle.lines.proofs.put_message.Tie as tie
@@ -22,7 +23,10 @@ slice-aggregate-put-2 : tie.Need-slice-aggregate-put-2
 slice-aggregate-put-2 c = search needs
 
 put-requires-2 : tie.Need-put-requires-2
-put-requires-2 c κs = omega (arith, c .before .before .before .before .put-decimal .ensures .next, c .before .before .before .before .put-decimal .kept, numeral-short 20 (c .before .before .before .before .before .before .before .before .before .before .before .before .before .args .refusal), c .before .before .before .before .before .before .before .before .put .ensures .next, c .before .before .before .before .before .before .before .before .put .kept, c .before .before .before .before .before .before .before .before .before .before .before .before .before .pre)
+put-requires-2 c κs =
+    let one = c .before .before .before .before .before .before .before .before .put in
+    let two = c .before .before .before .before .put-decimal in
+    room-after (c .before .before .before .before .before .before .before .before .before .before .before .before .before .args .refusal) 1 (one .ensures) (two .ensures) (omega (arith, c .before .before .before .before .before .before .before .before .before .before .before .before .before .pre)) (one .kept .0) (two .kept .0)
 
 put-decimal-requires-2 : tie.Need-put-decimal-requires-2
 put-decimal-requires-2 c κs = omega (arith, c .before .before .before .put2 .ensures .next, c .before .before .before .put2 .kept, c .before .before .before .before .before .before .before .before .put-decimal .ensures .next, c .before .before .before .before .before .before .before .before .put-decimal .kept, numeral-short 20 (c .before .before .before .before .before .before .before .before .before .before .before .before .before .before .before .before .before .args .refusal), c .before .before .before .before .before .before .before .before .before .before .before .before .put .ensures .next, c .before .before .before .before .before .before .before .before .before .before .before .before .put .kept, c .before .before .before .before .before .before .before .before .before .before .before .before .before .before .before .before .before .pre)
