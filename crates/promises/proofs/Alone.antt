@@ -7,28 +7,28 @@ use Prim.Native.Nat.{ℕ, _<_}
 use native.Mathlib.Omega.{arith}
 use borrow.Author.Tests.{le-ltb}
 use lib.Dec.{eqb}
-use Rattle.words.specs.Below.{pick}
-use Rattle.words.proofs.Below.{by-test}
+use Rattle.wire_word.specs.Below.{pick}
+use Rattle.wire_word.proofs.Below.{by-test}
 use Rattle.catalogue.specs.Plain.{catalogue}
-use Rattle.restriction.specs.Reader.{restriction}
-use Rattle.select.specs.Select.{selectedBy}
-use Rattle.sessions.specs.Layout.{seats}
-use Rattle.sessions.specs.Seat.{Seat, seatBlock, seatOf, fresh, opened}
-use Rattle.sessions.specs.Fits.{SeatOk}
-use Rattle.sessions.specs.Well.{tableWell}
-use Rattle.sessions.proofs.Seats.{seat-block}
-use Rattle.sessions.proofs.Tables.{seat-same, seat-other}
-use Rattle.refusals.specs.Refusal.{firstCause}
-use Rattle.refusals.proofs.First.{first-go}
-use Rattle.fetching.specs.Ready.{rowsOf}
-use Rattle.outcomes.specs.Message.{seatMessage}
-use Rattle.outcomes.proofs.Bodies.{with-fits}
-use Rattle.keeping.proofs.Keeping.{message-fits}
-use Rattle.opening.specs.Open.{freeHandle, openCauses, openedOn}
-use Rattle.steps.specs.Step.{Sources, sourcesOf, Outcome, judging, seatHeld, isConnected, seated, sizing, connectStep, messageStep, openDone, openStep}
-use Rattle.steps.proofs.Causes.{judging-numbered}
-use Rattle.steps.proofs.Passing.{Passing, selected-fits}
-use Rattle.steps.proofs.Seating.{seat-ok}
+use Rattle.tree_node.specs.Reader.{restriction}
+use Rattle.tree_select.specs.Select.{selectedBy}
+use Rattle.table.specs.Layout.{seats}
+use Rattle.table.specs.Seat.{Seat, seatBlock, seatOf, fresh, opened}
+use Rattle.table.specs.Fits.{SeatOk}
+use Rattle.table.specs.Well.{tableWell}
+use Rattle.table.proofs.Seats.{seat-block}
+use Rattle.table.proofs.Tables.{seat-same, seat-other}
+use Rattle.refusal.specs.Refusal.{firstCause}
+use Rattle.refusal.proofs.First.{first-go}
+use Rattle.fetch.specs.Ready.{rowsOf}
+use Rattle.message.specs.Message.{seatMessage}
+use Rattle.message.proofs.Bodies.{with-fits}
+use Rattle.message_keep.proofs.Keeping.{message-fits}
+use Rattle.query.specs.Open.{freeHandle, openCauses, openedOn}
+use Rattle.call.specs.Step.{Sources, sourcesOf, Outcome, judging, seatHeld, isConnected, seated, sizing, connectStep, messageStep, openDone, openStep}
+use Rattle.call.proofs.Causes.{judging-numbered}
+use Rattle.call.proofs.Passing.{Passing, selected-fits}
+use Rattle.call.proofs.Seating.{seat-ok}
 use Rattle.promises.specs.Calls.{Call, connecting, opening, messaging, seatOfCall, step, Answer, answerOf}
 
 -- an answer, and the seat afterwards

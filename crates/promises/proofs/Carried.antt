@@ -10,29 +10,29 @@ use native.Mathlib.Omega.{arith}
 use borrow.Author.Tests.{eq-eqb, ne-eqb, eqb-true, eqb-false}
 use lib.Dec.{eqb}
 use lib.ListN.{length}
-use Rattle.words.specs.Below.{pick, both}
-use Rattle.words.specs.Word.{numberAt}
-use Rattle.words.proofs.Below.{by-test, true≢false}
+use Rattle.wire_word.specs.Below.{pick, both}
+use Rattle.wire_word.specs.Word.{numberAt}
+use Rattle.wire_word.proofs.Below.{by-test, true≢false}
 use Rattle.catalogue.specs.Plain.{Row}
-use Rattle.bindings.specs.Bindings.{Bindings}
-use Rattle.bindings.specs.Plain.{bindings}
-use Rattle.restriction.specs.Reader.{restriction}
-use Rattle.restriction.specs.Answer.{isTree}
-use Rattle.select.specs.Select.{selectedBy}
-use Rattle.sessions.specs.Layout.{seats}
-use Rattle.sessions.specs.Seat.{Cursor, Seat, cursorIn, withCursor, opened, rebound, moved}
-use Rattle.sessions.specs.Fits.{SeatOk}
-use Rattle.refusals.specs.Refusal.{firstCause}
-use Rattle.refusals.proofs.First.{first-both}
-use Rattle.requests.specs.Request.{request}
-use Rattle.requests.specs.declared.Request.{Request}
-use Rattle.fetching.specs.Fetch.{sent, fetchReply, fetched}
-use Rattle.fetching.specs.Ready.{rowsOf}
-use Rattle.outcomes.specs.Message.{msgOf, handleOf, kindOf, kindFrom, served, isOpen, unread, unfit, boundTo, gateCauses, bodyCauses, bodyOf, seatCauses, rowsDone, doneOn, seatMessage}
-use Rattle.outcomes.proofs.Answering.{gate-numbered}
-use Rattle.opening.specs.Open.{freeHandle}
-use Rattle.steps.specs.Step.{Sources, sourcesOf, seatHeld, sizing}
-use Rattle.steps.proofs.Seating.{seat-ok}
+use Rattle.bindings_read.specs.Bindings.{Bindings}
+use Rattle.bindings_read.specs.Plain.{bindings}
+use Rattle.tree_node.specs.Reader.{restriction}
+use Rattle.tree_node.specs.Answer.{isTree}
+use Rattle.tree_select.specs.Select.{selectedBy}
+use Rattle.table.specs.Layout.{seats}
+use Rattle.table.specs.Seat.{Cursor, Seat, cursorIn, withCursor, opened, rebound, moved}
+use Rattle.table.specs.Fits.{SeatOk}
+use Rattle.refusal.specs.Refusal.{firstCause}
+use Rattle.refusal.proofs.First.{first-both}
+use Rattle.fetch_request.specs.Request.{request}
+use Rattle.fetch_request.specs.declared.Request.{Request}
+use Rattle.fetch.specs.Fetch.{sent, fetchReply, fetched}
+use Rattle.fetch.specs.Ready.{rowsOf}
+use Rattle.message.specs.Message.{msgOf, handleOf, kindOf, kindFrom, served, isOpen, unread, unfit, boundTo, gateCauses, bodyCauses, bodyOf, seatCauses, rowsDone, doneOn, seatMessage}
+use Rattle.message.proofs.Answering.{gate-numbered}
+use Rattle.query.specs.Open.{freeHandle}
+use Rattle.call.specs.Step.{Sources, sourcesOf, seatHeld, sizing}
+use Rattle.call.proofs.Seating.{seat-ok}
 use Rattle.promises.specs.Calls.{Call, connecting, opening, messaging, seatOfCall, step, Answer, answerOf, history, after}
 use Rattle.promises.specs.Told.{Handle, carriedOn, boundOn, afterMessage, accepted, afterCall, cursorTold, cursorBy, heldCursor}
 use Rattle.promises.proofs.Refusals.{accepted-passes, seat-refusal}

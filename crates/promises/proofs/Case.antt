@@ -4,31 +4,31 @@ use mathlib.Core.List.{List, [], _∷_}
 use mathlib.Core.Option.{Option, none, some}
 use Prim.Native.Nat.{ℕ, _<_}
 use native.Mathlib.Omega.{arith}
-use Rattle.words.specs.Below.{everyBelow}
-use Rattle.words.specs.Word.{number, numberAt, le}
+use Rattle.wire_word.specs.Below.{everyBelow}
+use Rattle.wire_word.specs.Word.{number, numberAt, le}
 use Rattle.catalogue.specs.Writer.{unitBytes}
 use Rattle.catalogue.proofs.Vectors.{caseBytes, caseRows, case-parses}
-use Rattle.columns.specs.Each.{every, pairwise}
-use Rattle.columns.specs.Fit.{spansOf, columnsFit, fit}
-use Rattle.bindings.specs.Plain.{zeroBytes, flag, spot, value, property, column, columns, bindings}
-use Rattle.leaves.specs.Padding.{zeros}
-use Rattle.leaves.specs.Property.{isSet, propertyAt}
-use Rattle.leaves.specs.Parts.{relationAt}
-use Rattle.restriction.specs.Holds.{says}
-use Rattle.restriction.specs.Reader.{readTree, restriction}
-use Rattle.select.specs.Select.{numbersFrom}
-use Rattle.spans.specs.Each.{Each}
-use Rattle.spans.specs.Laid.{lay, lays}
-use Rattle.cells.specs.Cell.{columnSpans}
-use Rattle.refusals.specs.Refusal.{firstCause}
-use Rattle.requests.specs.Request.{request}
-use Rattle.rows.specs.Rows.{blocks, returned, rowSpans, rowsSpans}
-use Rattle.pages.specs.Page.{pageBytes}
-use Rattle.sessions.specs.Layout.{seats}
-use Rattle.sessions.specs.Seat.{Seat}
-use Rattle.outcomes.specs.Message.{kindFrom, seatMessage}
-use Rattle.steps.specs.Step.{Sources, sourcesOf, seatHeld}
-use Rattle.steps.proofs.Passing.{Passing}
+use Rattle.bindings_column.specs.Each.{every, pairwise}
+use Rattle.bindings_column.specs.Fit.{spansOf, columnsFit, fit}
+use Rattle.bindings_read.specs.Plain.{zeroBytes, flag, spot, value, property, column, columns, bindings}
+use Rattle.tree_part.specs.Padding.{zeros}
+use Rattle.tree_part.specs.Property.{isSet, propertyAt}
+use Rattle.tree_part.specs.Parts.{relationAt}
+use Rattle.tree_node.specs.Holds.{says}
+use Rattle.tree_node.specs.Reader.{readTree, restriction}
+use Rattle.tree_select.specs.Select.{numbersFrom}
+use Rattle.wire_lay.specs.Each.{Each}
+use Rattle.wire_lay.specs.Laid.{lay, lays}
+use Rattle.page.specs.Cell.{columnSpans}
+use Rattle.refusal.specs.Refusal.{firstCause}
+use Rattle.fetch_request.specs.Request.{request}
+use Rattle.page_row.specs.Rows.{blocks, returned, rowSpans, rowsSpans}
+use Rattle.page_write.specs.Page.{pageBytes}
+use Rattle.table.specs.Layout.{seats}
+use Rattle.table.specs.Seat.{Seat}
+use Rattle.message.specs.Message.{kindFrom, seatMessage}
+use Rattle.call.specs.Step.{Sources, sourcesOf, seatHeld}
+use Rattle.call.proofs.Passing.{Passing}
 use Rattle.promises.specs.Calls.{Call, seatOfCall, step, Answer, Event, history, freshTable}
 use Rattle.promises.specs.Case.{caseCalls, caseEvents}
 use Rattle.promises.proofs.Reached.{step-passes, fresh-seat, fresh-passes}

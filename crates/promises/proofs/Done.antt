@@ -6,18 +6,18 @@ use Prim.Native.Nat.{ℕ}
 use native.Mathlib.Omega.{arith}
 use borrow.Author.Tests.{eq-eqb, eqb-false}
 use lib.Dec.{eqb}
-use Rattle.words.specs.Word.{le}
-use Rattle.words.proofs.Below.{by-test}
-use Rattle.words.proofs.Options.{some-is}
+use Rattle.wire_word.specs.Word.{le}
+use Rattle.wire_word.proofs.Below.{by-test}
+use Rattle.wire_word.proofs.Options.{some-is}
 use Rattle.catalogue.specs.Plain.{Row, catalogue}
-use Rattle.spans.specs.Laid.{fourWords}
-use Rattle.sessions.specs.Seat.{Seat, fresh}
-use Rattle.refusals.specs.Refusal.{firstCause}
-use Rattle.fetching.specs.Ready.{rowsOf}
-use Rattle.outcomes.specs.Message.{msgOf, kindOf, kindFrom, served, stillOpen, seatCauses, seatMessage}
-use Rattle.keeping.proofs.Keeping.{message-fits}
-use Rattle.steps.specs.Step.{Sources, sourcesOf, judging, seatHeld, seated, sizing, messageStep}
-use Rattle.steps.proofs.Seating.{seat-ok}
+use Rattle.wire_lay.specs.Laid.{fourWords}
+use Rattle.table.specs.Seat.{Seat, fresh}
+use Rattle.refusal.specs.Refusal.{firstCause}
+use Rattle.fetch.specs.Ready.{rowsOf}
+use Rattle.message.specs.Message.{msgOf, kindOf, kindFrom, served, stillOpen, seatCauses, seatMessage}
+use Rattle.message_keep.proofs.Keeping.{message-fits}
+use Rattle.call.specs.Step.{Sources, sourcesOf, judging, seatHeld, seated, sizing, messageStep}
+use Rattle.call.proofs.Seating.{seat-ok}
 use Rattle.promises.specs.Calls.{connecting, messaging, step, Answer}
 use Rattle.promises.specs.Done.{Done}
 use Rattle.promises.proofs.Refusals.{accepted-passes}

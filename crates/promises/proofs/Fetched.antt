@@ -9,20 +9,20 @@ use native.Mathlib.Omega.{arith}
 use borrow.Author.Tests.{eqb-false, eq-eqb}
 use lib.Dec.{eqb}
 use lib.ListN.{length}
-use Rattle.words.proofs.Below.{by-test}
+use Rattle.wire_word.proofs.Below.{by-test}
 use Rattle.catalogue.specs.Plain.{Row, catalogue}
-use Rattle.columns.specs.Fit.{fit}
-use Rattle.sessions.specs.Layout.{seats}
-use Rattle.sessions.specs.Seat.{Cursor, Seat, cursorIn}
-use Rattle.sessions.specs.Fits.{Rising, CursorFits, CursorOk, SeatOk}
-use Rattle.refusals.specs.Refusal.{firstCause}
-use Rattle.requests.specs.Request.{request, Sound}
-use Rattle.requests.specs.declared.Request.{Request}
-use Rattle.fetching.specs.Fetch.{fetchReply}
-use Rattle.fetching.specs.Ready.{rowsOf}
-use Rattle.outcomes.specs.Message.{msgOf, handleOf, kindOf, kindFrom, served, isOpen, seatCauses, doneOn, seatMessage}
-use Rattle.steps.specs.Step.{Sources, sourcesOf, judging, seatHeld, sizing, messageStep}
-use Rattle.steps.proofs.Seating.{seat-ok}
+use Rattle.bindings_column.specs.Fit.{fit}
+use Rattle.table.specs.Layout.{seats}
+use Rattle.table.specs.Seat.{Cursor, Seat, cursorIn}
+use Rattle.table.specs.Fits.{Rising, CursorFits, CursorOk, SeatOk}
+use Rattle.refusal.specs.Refusal.{firstCause}
+use Rattle.fetch_request.specs.Request.{request, Sound}
+use Rattle.fetch_request.specs.declared.Request.{Request}
+use Rattle.fetch.specs.Fetch.{fetchReply}
+use Rattle.fetch.specs.Ready.{rowsOf}
+use Rattle.message.specs.Message.{msgOf, handleOf, kindOf, kindFrom, served, isOpen, seatCauses, doneOn, seatMessage}
+use Rattle.call.specs.Step.{Sources, sourcesOf, judging, seatHeld, sizing, messageStep}
+use Rattle.call.proofs.Seating.{seat-ok}
 use Rattle.promises.specs.Calls.{Call, messaging, step, answerOf, history, after, freshTable}
 use Rattle.promises.specs.Told.{Handle, cursorTold, cursorBy, heldCursor}
 use Rattle.promises.specs.Rows.{rowsTold, firstRows, RowsReply, Sends, Carries}

@@ -7,9 +7,9 @@ use Prim.Native.Nat.{ℕ, zero, suc, _<_}
 use native.Mathlib.Nat.{not-suc-le-zero, le-of-suc-le-suc}
 use native.Mathlib.Omega.{arith}
 use lib.ListN.{length}
-use Rattle.words.proofs.Below.{by-test}
-use Rattle.refusals.specs.Refusal.{firstCause}
-use Rattle.refusals.proofs.First.{Numbered}
+use Rattle.wire_word.proofs.Below.{by-test}
+use Rattle.refusal.specs.Refusal.{firstCause}
+use Rattle.refusal.proofs.First.{Numbered}
 use Rattle.promises.specs.Causes.{cause, Given, NoneApplies, Risen}
 
 given-later : (n : ℕ) (c : ℕ × Bool) (a : List (ℕ × Bool)) → c .1 ≡ false → Given n a → Given n (c ∷ a)

@@ -6,13 +6,13 @@ use Prim.Native.Nat.{ℕ, _<_}
 use native.Mathlib.Omega.{arith}
 use borrow.Author.Tests.{eqb-true, eqb-false, lt-ltb, ltb-true, ltb-false}
 use lib.Dec.{ltb, eqb}
-use Rattle.words.proofs.Below.{by-test}
+use Rattle.wire_word.proofs.Below.{by-test}
 use Rattle.catalogue.specs.Plain.{Row, catalogue}
-use Rattle.sessions.specs.Layout.{seats}
-use Rattle.sessions.specs.Seat.{Seat}
-use Rattle.refusals.specs.Refusal.{firstCause}
-use Rattle.steps.specs.Step.{Sources, sourcesOf, Outcome, seatHeld}
-use Rattle.steps.proofs.Passing.{Passing}
+use Rattle.table.specs.Layout.{seats}
+use Rattle.table.specs.Seat.{Seat}
+use Rattle.refusal.specs.Refusal.{firstCause}
+use Rattle.call.specs.Step.{Sources, sourcesOf, Outcome, seatHeld}
+use Rattle.call.proofs.Passing.{Passing}
 use Rattle.promises.specs.Calls.{Call, connecting, opening, messaging, seatOfCall, step, Answer, answerOf, Event, history, freshTable}
 use Rattle.promises.specs.Causes.{causesOf, refusalReply}
 use Rattle.promises.specs.Own.{ownCalls, ownEvents}

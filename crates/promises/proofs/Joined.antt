@@ -7,13 +7,13 @@ use borrow.Author.Tests.{eq-eqb}
 use lib.Dec.{eqb}
 use lib.ListN.{take}
 use lib.Seq.{take-add}
-use Rattle.words.specs.Below.{both}
-use Rattle.words.proofs.Below.{by-test}
-use Rattle.bindings.specs.Bindings.{Bindings}
-use Rattle.bindings.specs.Plain.{bindings}
-use Rattle.sessions.specs.Seat.{Cursor}
-use Rattle.outcomes.specs.Message.{msgOf, handleOf}
-use Rattle.steps.specs.Step.{Sources}
+use Rattle.wire_word.specs.Below.{both}
+use Rattle.wire_word.proofs.Below.{by-test}
+use Rattle.bindings_read.specs.Bindings.{Bindings}
+use Rattle.bindings_read.specs.Plain.{bindings}
+use Rattle.table.specs.Seat.{Cursor}
+use Rattle.message.specs.Message.{msgOf, handleOf}
+use Rattle.call.specs.Step.{Sources}
 use Rattle.promises.specs.Calls.{Call, connecting, opening, messaging, Answer, Event}
 use Rattle.promises.specs.Told.{carriedOn, boundOn, accepted, afterMessage, afterCall, cursorTold}
 use Rattle.promises.specs.Rows.{countIn, pageOn, joinedMessage, joinedCall, rowsTold, firstRows}

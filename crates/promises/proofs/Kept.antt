@@ -1,4 +1,4 @@
--- The promises as a caller of `connecting::connect`, `querying::open` and `exchange::message` has them: of what the function returns and leaves in each lent slice.
+-- The promises as a caller of `call_connect::connect`, `call_open::open` and `call_message::message` has them: of what the function returns and leaves in each lent slice.
 -- Assumes nothing.
 use mathlib.Core.Path.{_≡_, sym, ap, _∙_}
 use mathlib.Core.List.{List, [], _++_}
@@ -6,12 +6,12 @@ use Prim.Native.Nat.{ℕ, _≤_}
 use native.Mathlib.Omega.{arith}
 use borrow.Author.Tests.{lt-ltb, le-ltb}
 use lib.ListN.{length, drop}
-use Rattle.words.specs.Word.{le}
-use Rattle.spans.specs.Laid.{fourWords}
-use Rattle.refusals.specs.Refusal.{statusOf}
-use Rattle.outcomes.specs.Message.{msgOf}
-use Rattle.steps.specs.Step.{Sources, Keeps}
-use Rattle.steps.proofs.Once.{Same, keeps-once}
+use Rattle.wire_word.specs.Word.{le}
+use Rattle.wire_lay.specs.Laid.{fourWords}
+use Rattle.refusal.specs.Refusal.{statusOf}
+use Rattle.message.specs.Message.{msgOf}
+use Rattle.call.specs.Step.{Sources, Keeps}
+use Rattle.call.proofs.Once.{Same, keeps-once}
 use Rattle.promises.specs.Calls.{Call, messaging, step}
 use Rattle.promises.specs.Causes.{refusalReply}
 use Rattle.promises.proofs.Unchanged.{refused-leaves}

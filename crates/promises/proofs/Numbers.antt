@@ -1,19 +1,19 @@
 -- The table of numbers holds, by computation. Assumes nothing.
 use mathlib.Core.Path.{refl}
 use native.Mathlib.Omega.{arith}
-use Rattle.words.specs.Below.{someBelow, everyBelow}
-use Rattle.words.specs.Word.{number, numberAt, le}
-use Rattle.checksum.specs.Checksum.{sumOfWords, bodySum, checksum}
-use Rattle.numbers.specs.Groups as Groups
-use Rattle.phrase.specs.Phrase.{standsAt, startsWord, endsWord, occursAt, occurs}
-use Rattle.leaves.specs.Padding.{zeros}
-use Rattle.leaves.specs.Property.{isSet, propertyAt}
-use Rattle.leaves.specs.Parts.{relationAt}
-use Rattle.restriction.specs.Reader.{readTree, restriction}
-use Rattle.refusals.specs.Refusal.{firstCause}
-use Rattle.requests.specs.Request.{request}
-use Rattle.rows.specs.Rows.{blocks, allBlocks, returned}
-use Rattle.spans.specs.Each.{Each}
+use Rattle.wire_word.specs.Below.{someBelow, everyBelow}
+use Rattle.wire_word.specs.Word.{number, numberAt, le}
+use Rattle.wire_checksum.specs.Checksum.{sumOfWords, bodySum, checksum}
+use Rattle.catalogue_number.specs.Groups as Groups
+use Rattle.tree_phrase.specs.Phrase.{standsAt, startsWord, endsWord, occursAt, occurs}
+use Rattle.tree_part.specs.Padding.{zeros}
+use Rattle.tree_part.specs.Property.{isSet, propertyAt}
+use Rattle.tree_part.specs.Parts.{relationAt}
+use Rattle.tree_node.specs.Reader.{readTree, restriction}
+use Rattle.refusal.specs.Refusal.{firstCause}
+use Rattle.fetch_request.specs.Request.{request}
+use Rattle.page_row.specs.Rows.{blocks, allBlocks, returned}
+use Rattle.wire_lay.specs.Each.{Each}
 use Rattle.promises.specs.Numbers.{Holds, facts}
 
 pub all-hold : Each Holds facts

@@ -8,21 +8,21 @@ use Prim.Native.Nat.{ℕ}
 use native.Mathlib.Omega.{arith}
 use borrow.Author.Tests.{eq-eqb}
 use lib.Dec.{eqb}
-use Rattle.words.proofs.Below.{by-test, true≢false}
+use Rattle.wire_word.proofs.Below.{by-test, true≢false}
 use Rattle.catalogue.specs.Plain.{Row, catalogue}
-use Rattle.restriction.specs.Tree.{Tree}
-use Rattle.restriction.specs.Reader.{restriction}
-use Rattle.restriction.specs.Answer.{isTree}
-use Rattle.select.specs.Select.{selection, selectedBy}
-use Rattle.select.proofs.Selection.{selection-has, selection-rises}
-use Rattle.sessions.specs.Seat.{Cursor, Seat, cursorIn, opened}
-use Rattle.refusals.specs.Refusal.{firstCause}
-use Rattle.refusals.proofs.First.{first-both}
-use Rattle.outcomes.specs.Message.{isOpen}
-use Rattle.opening.specs.Open.{freeHandle, openCauses}
-use Rattle.steps.specs.Step.{Sources, sourcesOf, Outcome, rowsHold, judging, seatHeld, openDone, openStep}
-use Rattle.steps.proofs.Causes.{judging-numbered}
-use Rattle.steps.proofs.Opening.{closed}
+use Rattle.tree_node.specs.Tree.{Tree}
+use Rattle.tree_node.specs.Reader.{restriction}
+use Rattle.tree_node.specs.Answer.{isTree}
+use Rattle.tree_select.specs.Select.{selection, selectedBy}
+use Rattle.tree_select.proofs.Selection.{selection-has, selection-rises}
+use Rattle.table.specs.Seat.{Cursor, Seat, cursorIn, opened}
+use Rattle.refusal.specs.Refusal.{firstCause}
+use Rattle.refusal.proofs.First.{first-both}
+use Rattle.message.specs.Message.{isOpen}
+use Rattle.query.specs.Open.{freeHandle, openCauses}
+use Rattle.call.specs.Step.{Sources, sourcesOf, Outcome, rowsHold, judging, seatHeld, openDone, openStep}
+use Rattle.call.proofs.Causes.{judging-numbered}
+use Rattle.call.proofs.Opening.{closed}
 use Rattle.promises.specs.Calls.{opening, step, Answer, answerOf}
 use Rattle.promises.specs.Told.{afterCall, cursorBy, heldCursor}
 use Rattle.promises.specs.Opens.{Opens}

@@ -9,14 +9,14 @@ use borrow.Author.Tests.{eq-eqb}
 use lib.Dec.{eqb}
 use lib.ListN.{length, take, replicate, length-replicate, replicate-append-replicate}
 use lib.Seq.{take-at, drop-at}
-use Rattle.words.proofs.Below.{true≢false, both-true, every-shown}
+use Rattle.wire_word.proofs.Below.{true≢false, both-true, every-shown}
 use Rattle.catalogue.specs.Plain.{Row, catalogue}
-use Rattle.sessions.specs.Layout.{seats, seatSize, seatAt, tableSize, part, blockOf}
-use Rattle.sessions.specs.Seat.{seatBlock, seatOf}
-use Rattle.sessions.specs.Well.{seatWell, tableWell, seatBelow, tableBelow}
-use Rattle.sessions.proofs.Seats.{seat-block}
-use Rattle.steps.specs.Step.{Sources, sourcesOf, rowsHold, seatHeld}
-use Rattle.steps.proofs.Passing.{Passing, connect-passes, open-passes, message-passes}
+use Rattle.table.specs.Layout.{seats, seatSize, seatAt, tableSize, part, blockOf}
+use Rattle.table.specs.Seat.{seatBlock, seatOf}
+use Rattle.table.specs.Well.{seatWell, tableWell, seatBelow, tableBelow}
+use Rattle.table.proofs.Seats.{seat-block}
+use Rattle.call.specs.Step.{Sources, sourcesOf, rowsHold, seatHeld}
+use Rattle.call.proofs.Passing.{Passing, connect-passes, open-passes, message-passes}
 use Rattle.promises.specs.Calls.{Call, connecting, opening, messaging, step, after, freshTable}
 use Rattle.promises.proofs.Refusals.{accepted-passes}
 use Rattle.promises.proofs.Unchanged.{refused-leaves}

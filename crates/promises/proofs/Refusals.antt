@@ -8,18 +8,18 @@ use Prim.Native.Nat.{ℕ}
 use native.Mathlib.Omega.{arith}
 use borrow.Author.Tests.{eqb-true, eqb-false}
 use lib.Dec.{eqb}
-use Rattle.words.proofs.Below.{by-test}
+use Rattle.wire_word.proofs.Below.{by-test}
 use Rattle.catalogue.specs.Plain.{Row}
-use Rattle.sessions.specs.Seat.{Cursor, Seat, cursorIn}
-use Rattle.requests.specs.Request.{request}
-use Rattle.requests.specs.declared.Request.{Request}
-use Rattle.refusals.specs.Refusal.{firstCause}
-use Rattle.refusals.proofs.First.{Numbered, first-stop, first-go, first-both}
-use Rattle.fetching.specs.Ready.{rowsOf}
-use Rattle.outcomes.specs.Message.{kindOf, served, msgOf, handleOf, bodyCauses, seatCauses, rowsCauses, rowsDone, doneOn, doneBy, seatMessage}
-use Rattle.opening.specs.Open.{openCauses}
-use Rattle.steps.specs.Step.{Sources, judging, seatHeld, isConnected, sizing, connectCauses, connectStep, messageStep, openDone, openStep}
-use Rattle.steps.proofs.Causes.{Passes, passes, judging-numbered}
+use Rattle.table.specs.Seat.{Cursor, Seat, cursorIn}
+use Rattle.fetch_request.specs.Request.{request}
+use Rattle.fetch_request.specs.declared.Request.{Request}
+use Rattle.refusal.specs.Refusal.{firstCause}
+use Rattle.refusal.proofs.First.{Numbered, first-stop, first-go, first-both}
+use Rattle.fetch.specs.Ready.{rowsOf}
+use Rattle.message.specs.Message.{kindOf, served, msgOf, handleOf, bodyCauses, seatCauses, rowsCauses, rowsDone, doneOn, doneBy, seatMessage}
+use Rattle.query.specs.Open.{openCauses}
+use Rattle.call.specs.Step.{Sources, judging, seatHeld, isConnected, sizing, connectCauses, connectStep, messageStep, openDone, openStep}
+use Rattle.call.proofs.Causes.{Passes, passes, judging-numbered}
 use Rattle.promises.specs.Calls.{Call, connecting, opening, messaging, seatOfCall, step}
 use Rattle.promises.specs.Causes.{causesOf, Given, NoneApplies, Risen}
 use Rattle.promises.proofs.First.{exact, exact-none, risen-numbered}

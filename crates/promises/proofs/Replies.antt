@@ -12,25 +12,25 @@ use borrow.Author.Tests.{eqb-true, eqb-false}
 use lib.Dec.{eqb}
 use lib.ListN.{length, getD, take, drop, replicate, length-map, length-drop, length-replicate}
 use lib.Seq.{length-take-le, getD-take, getD-drop}
-use Rattle.words.proofs.Below.{by-test}
-use Rattle.words.proofs.Options.{none≢some, some-is}
+use Rattle.wire_word.proofs.Below.{by-test}
+use Rattle.wire_word.proofs.Options.{none≢some, some-is}
 use Rattle.catalogue.specs.Plain.{Row, catalogue}
 use Rattle.catalogue.specs.Places.{places, rowSeen}
 use Rattle.catalogue.proofs.Agree.{accepted, catalogue-agrees}
-use Rattle.columns.specs.Fit.{fit}
-use Rattle.columns.specs.Sound.{column}
-use Rattle.cells.specs.Field.{fieldOf}
-use Rattle.sessions.specs.Seat.{Cursor}
-use Rattle.sessions.specs.Fits.{CursorFits}
-use Rattle.requests.specs.Request.{Sound}
-use Rattle.requests.specs.declared.Request.{Request}
-use Rattle.rows.specs.Rows.{allBlocks, Fits}
-use Rattle.pages.specs.Page.{pageBytes, page, statusFor, endOfRows}
-use Rattle.pages.specs.Reads.{rowIn, rowPlace, blockPlace, Held, Reads, HeadReads}
-use Rattle.pages.proofs.Head.{held-seen}
-use Rattle.pages.proofs.ReadBack.{reads-back}
-use Rattle.pages.proofs.Reply.{page-inside, page-clear, page-zero, bytes-length}
-use Rattle.fetching.specs.Fetch.{remaining, sent, rowsSent, thenLeft, fetchReply}
+use Rattle.bindings_column.specs.Fit.{fit}
+use Rattle.bindings_column.specs.Sound.{column}
+use Rattle.page.specs.Field.{fieldOf}
+use Rattle.table.specs.Seat.{Cursor}
+use Rattle.table.specs.Fits.{CursorFits}
+use Rattle.fetch_request.specs.Request.{Sound}
+use Rattle.fetch_request.specs.declared.Request.{Request}
+use Rattle.page_row.specs.Rows.{allBlocks, Fits}
+use Rattle.page_write.specs.Page.{pageBytes, page, statusFor, endOfRows}
+use Rattle.page_write.specs.Reads.{rowIn, rowPlace, blockPlace, Held, Reads, HeadReads}
+use Rattle.page_write.proofs.Head.{held-seen}
+use Rattle.page_write.proofs.ReadBack.{reads-back}
+use Rattle.page_write.proofs.Reply.{page-inside, page-clear, page-zero, bytes-length}
+use Rattle.fetch.specs.Fetch.{remaining, sent, rowsSent, thenLeft, fetchReply}
 use Rattle.promises.specs.Rows.{countIn, statusIn, pageNumbers, pageRows, RowsReply}
 use Rattle.promises.proofs.Served.{bytes-are, inside, greatest, sent-most, room, reply-head, count-read, status-read}
 

@@ -10,26 +10,26 @@ use borrow.Author.Tests.{eq-eqb, eqb-true}
 use lib.Dec.{eqb}
 use lib.ListN.{length, replicate, length-replicate, drop-of-length-le}
 use lib.Seq.{length-take-le}
-use Rattle.words.specs.Word.{numberAt}
-use Rattle.words.proofs.Below.{by-test, true≢false}
+use Rattle.wire_word.specs.Word.{numberAt}
+use Rattle.wire_word.proofs.Below.{by-test, true≢false}
 use Rattle.catalogue.specs.Plain.{Row}
-use Rattle.columns.specs.Fit.{fit}
-use Rattle.columns.specs.declared.Column.{Column}
-use Rattle.sessions.specs.Seat.{Cursor, Seat, cursorIn}
-use Rattle.sessions.specs.Fits.{CursorFits, CursorOk, SeatOk}
-use Rattle.refusals.specs.Refusal.{firstCause}
-use Rattle.requests.specs.Request.{request, Sound}
-use Rattle.requests.specs.declared.Request.{Request}
-use Rattle.requests.proofs.Ranges.{request-sound}
-use Rattle.rows.specs.Rows.{allBlocks}
-use Rattle.pages.specs.Page.{pageBytes, page, statusFor}
-use Rattle.pages.specs.Reads.{HeadReads}
-use Rattle.pages.proofs.Greatest.{Greatest, returned-is, returned-room}
-use Rattle.pages.proofs.Head.{head-reads}
-use Rattle.pages.proofs.Reply.{page-is}
-use Rattle.fetching.specs.Fetch.{remaining, unbound, sent, rowsSent, thenLeft, fetchReply}
-use Rattle.fetching.proofs.Sending.{sent-left, sound-inside}
-use Rattle.outcomes.specs.Message.{handleOf, isOpen, unasked, rowsCauses, bodyCauses}
+use Rattle.bindings_column.specs.Fit.{fit}
+use Rattle.bindings_column.specs.declared.Column.{Column}
+use Rattle.table.specs.Seat.{Cursor, Seat, cursorIn}
+use Rattle.table.specs.Fits.{CursorFits, CursorOk, SeatOk}
+use Rattle.refusal.specs.Refusal.{firstCause}
+use Rattle.fetch_request.specs.Request.{request, Sound}
+use Rattle.fetch_request.specs.declared.Request.{Request}
+use Rattle.fetch_request.proofs.Ranges.{request-sound}
+use Rattle.page_row.specs.Rows.{allBlocks}
+use Rattle.page_write.specs.Page.{pageBytes, page, statusFor}
+use Rattle.page_write.specs.Reads.{HeadReads}
+use Rattle.page_write.proofs.Greatest.{Greatest, returned-is, returned-room}
+use Rattle.page_write.proofs.Head.{head-reads}
+use Rattle.page_write.proofs.Reply.{page-is}
+use Rattle.fetch.specs.Fetch.{remaining, unbound, sent, rowsSent, thenLeft, fetchReply}
+use Rattle.fetch.proofs.Sending.{sent-left, sound-inside}
+use Rattle.message.specs.Message.{handleOf, isOpen, unasked, rowsCauses, bodyCauses}
 
 -- the cursors of a seat that fits
 pub cursor-ok : (s : Seat) (handle : ℕ) → SeatOk (some s) → CursorOk (cursorIn s handle)

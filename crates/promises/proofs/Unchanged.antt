@@ -6,16 +6,16 @@ use Prim.Native.Nat.{ℕ}
 use native.Mathlib.Omega.{arith}
 use borrow.Author.Tests.{eqb-true, lt-ltb, le-ltb}
 use lib.Dec.{eqb}
-use Rattle.words.proofs.Below.{by-test}
+use Rattle.wire_word.proofs.Below.{by-test}
 use Rattle.catalogue.specs.Plain.{Row}
-use Rattle.sessions.specs.Seat.{Seat}
-use Rattle.refusals.specs.Refusal.{firstCause}
-use Rattle.refusals.proofs.First.{first-under}
-use Rattle.fetching.specs.Ready.{rowsOf}
-use Rattle.outcomes.specs.Message.{seatCauses, seatMessage}
-use Rattle.opening.specs.Open.{openCauses}
-use Rattle.steps.specs.Step.{Sources, judging, seatHeld, sizing, connectCauses, connectStep, messageStep, openDone, openStep}
-use Rattle.steps.proofs.Unchanged.{connect-unchanged, open-unchanged, message-unchanged}
+use Rattle.table.specs.Seat.{Seat}
+use Rattle.refusal.specs.Refusal.{firstCause}
+use Rattle.refusal.proofs.First.{first-under}
+use Rattle.fetch.specs.Ready.{rowsOf}
+use Rattle.message.specs.Message.{seatCauses, seatMessage}
+use Rattle.query.specs.Open.{openCauses}
+use Rattle.call.specs.Step.{Sources, judging, seatHeld, sizing, connectCauses, connectStep, messageStep, openDone, openStep}
+use Rattle.call.proofs.Unchanged.{connect-unchanged, open-unchanged, message-unchanged}
 use Rattle.promises.specs.Calls.{Call, connecting, opening, messaging, step}
 use Rattle.promises.specs.Causes.{refusalReply, Refused}
 use Rattle.promises.proofs.First.{first-over}

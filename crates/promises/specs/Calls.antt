@@ -3,8 +3,8 @@
 use mathlib.Core.List.{List, [], _∷_}
 use Prim.Native.Nat.{ℕ}
 use lib.ListN.{replicate}
-use Rattle.sessions.specs.Layout.{tableSize}
-use Rattle.steps.specs.Step.{Sources, Outcome, connectStep, openStep, messageStep}
+use Rattle.table.specs.Layout.{tableSize}
+use Rattle.call.specs.Step.{Sources, Outcome, connectStep, openStep, messageStep}
 
 -- a call of the server with its arguments; of a message's reply buffer its length
 pub data Call : Type 0 where
@@ -17,7 +17,7 @@ seatOfCall (connecting seat version) = seat
 seatOfCall (opening seat tree) = seat
 seatOfCall (messaging seat m room) = seat
 
--- what it does: exactly what the contract of `connecting::connect`, `querying::open` or `exchange::message` cites
+-- what it does: exactly what the contract of `call_connect::connect`, `call_open::open` or `call_message::message` cites
 abbrev pub step : Sources → List ℕ → Call → Outcome
 step src t (connecting seat version) = connectStep src t seat version
 step src t (opening seat tree) = openStep src t seat tree

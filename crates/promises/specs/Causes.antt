@@ -5,13 +5,13 @@ use mathlib.Core.List.{List, [], _∷_, _++_}
 use Prim.Native.Nat.{ℕ, _<_}
 use lib.Dec.{ltb}
 use lib.ListN.{length, getD}
-use Rattle.words.specs.Below.{pick}
-use Rattle.spans.specs.Laid.{fourWords}
-use Rattle.refusals.specs.Refusal.{statusOf}
-use Rattle.fetching.specs.Ready.{rowsOf}
-use Rattle.outcomes.specs.Message.{msgOf, seatCauses}
-use Rattle.opening.specs.Open.{openCauses}
-use Rattle.steps.specs.Step.{Sources, Outcome, judging, seatHeld, sizing, connectCauses}
+use Rattle.wire_word.specs.Below.{pick}
+use Rattle.wire_lay.specs.Laid.{fourWords}
+use Rattle.refusal.specs.Refusal.{statusOf}
+use Rattle.fetch.specs.Ready.{rowsOf}
+use Rattle.message.specs.Message.{msgOf, seatCauses}
+use Rattle.query.specs.Open.{openCauses}
+use Rattle.call.specs.Step.{Sources, Outcome, judging, seatHeld, sizing, connectCauses}
 use Rattle.promises.specs.Calls.{Call, connecting, opening, messaging}
 
 -- every cause that the call judges, each its number and whether it applies

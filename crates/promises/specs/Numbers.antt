@@ -5,23 +5,23 @@ use mathlib.Core.List.{List, [], _∷_}
 use mathlib.Core.Option.{Option, none, some}
 use Prim.Native.Nat.{ℕ, _+_, _-_}
 use lib.ListN.{replicate}
-use Rattle.checksum.specs.Checksum.{checksum}
-use Rattle.checksum.proofs.Vectors.{messageOf}
-use Rattle.numbers.specs.Groups as Groups
+use Rattle.wire_checksum.specs.Checksum.{checksum}
+use Rattle.wire_checksum.proofs.Vectors.{messageOf}
+use Rattle.catalogue_number.specs.Groups as Groups
 use Rattle.catalogue.specs.Limits.{numberMost}
 use Rattle.catalogue.specs.Plain.{Row}
-use Rattle.phrase.specs.Phrase.{occurs}
-use Rattle.phrase.proofs.Vectors.{start, starting, restart, re-start}
-use Rattle.restriction.proofs.Vectors.{related, nots}
-use Rattle.refusals.specs.Refusal.{firstCause}
-use Rattle.requests.specs.Request.{request}
-use Rattle.requests.specs.declared.Request.{Request}
-use Rattle.rows.specs.Rows.{Fits}
-use Rattle.pages.proofs.Vectors.{caseColumns}
-use Rattle.sessions.specs.Seat.{Cursor, fresh}
-use Rattle.fetching.specs.Fetch.{fetchCauses, sent}
-use Rattle.outcomes.specs.Message.{unasked}
-use Rattle.opening.specs.Open.{openCauses}
+use Rattle.tree_phrase.specs.Phrase.{occurs}
+use Rattle.tree_phrase.proofs.Vectors.{start, starting, restart, re-start}
+use Rattle.tree_node.proofs.Vectors.{related, nots}
+use Rattle.refusal.specs.Refusal.{firstCause}
+use Rattle.fetch_request.specs.Request.{request}
+use Rattle.fetch_request.specs.declared.Request.{Request}
+use Rattle.page_row.specs.Rows.{Fits}
+use Rattle.page_write.proofs.Vectors.{caseColumns}
+use Rattle.table.specs.Seat.{Cursor, fresh}
+use Rattle.fetch.specs.Fetch.{fetchCauses, sent}
+use Rattle.message.specs.Message.{unasked}
+use Rattle.query.specs.Open.{openCauses}
 
 -- a row with a label, or without
 abbrev pub labelled : Option (List ℕ) → Row

@@ -8,13 +8,13 @@ use mathlib.Core.Option.{none, some}
 use Prim.Native.Nat.{ℕ, _<_}
 use lib.ListN.{length}
 use Rattle.catalogue.specs.Plain.{Row, catalogue}
-use Rattle.restriction.specs.Tree.{Tree}
-use Rattle.restriction.specs.Holds.{holds}
-use Rattle.restriction.specs.Reader.{restriction}
-use Rattle.restriction.specs.Rising.{Rises}
-use Rattle.pages.specs.Reads.{rowIn}
-use Rattle.sessions.specs.Seat.{opened}
-use Rattle.steps.specs.Step.{Outcome}
+use Rattle.tree_node.specs.Tree.{Tree}
+use Rattle.tree_node.specs.Holds.{holds}
+use Rattle.tree_node.specs.Reader.{restriction}
+use Rattle.tree_node.specs.Rising.{Rises}
+use Rattle.page_write.specs.Reads.{rowIn}
+use Rattle.table.specs.Seat.{opened}
+use Rattle.call.specs.Step.{Outcome}
 use Rattle.promises.specs.Told.{heldCursor}
 
 pub record Opens (s t : List ℕ) (seat : ℕ) (bytes : List ℕ) (o : Outcome) : Type 0 where

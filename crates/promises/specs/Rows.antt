@@ -6,22 +6,22 @@ use mathlib.Core.Option.{Option, none, some}
 use Prim.Native.Nat.{ℕ, _+_, _≤_, _<_}
 use lib.Dec.{eqb}
 use lib.ListN.{length, getD, take, drop}
-use Rattle.words.specs.Below.{pick, both}
-use Rattle.words.specs.Word.{numberAt}
+use Rattle.wire_word.specs.Below.{pick, both}
+use Rattle.wire_word.specs.Word.{numberAt}
 use Rattle.catalogue.specs.Plain.{Row}
-use Rattle.columns.specs.Sound.{column}
-use Rattle.cells.specs.Field.{fieldOf}
-use Rattle.spans.specs.Each.{Each, Pairwise}
-use Rattle.spans.specs.Laid.{Laid, Inside, Clear, Outside}
-use Rattle.sessions.specs.Seat.{Cursor}
-use Rattle.requests.specs.Request.{request}
-use Rattle.requests.specs.declared.Request.{Request}
-use Rattle.rows.specs.Rows.{Fits}
-use Rattle.pages.specs.Page.{pageSpans, pageBytes, endOfRows}
-use Rattle.pages.specs.Reads.{rowIn, rowPlace, blockPlace, Reads, HeadReads}
-use Rattle.fetching.specs.Fetch.{numbered, remaining}
-use Rattle.outcomes.specs.Message.{msgOf, handleOf}
-use Rattle.steps.specs.Step.{Sources}
+use Rattle.bindings_column.specs.Sound.{column}
+use Rattle.page.specs.Field.{fieldOf}
+use Rattle.wire_lay.specs.Each.{Each, Pairwise}
+use Rattle.wire_lay.specs.Laid.{Laid, Inside, Clear, Outside}
+use Rattle.table.specs.Seat.{Cursor}
+use Rattle.fetch_request.specs.Request.{request}
+use Rattle.fetch_request.specs.declared.Request.{Request}
+use Rattle.page_row.specs.Rows.{Fits}
+use Rattle.page_write.specs.Page.{pageSpans, pageBytes, endOfRows}
+use Rattle.page_write.specs.Reads.{rowIn, rowPlace, blockPlace, Reads, HeadReads}
+use Rattle.fetch.specs.Fetch.{numbered, remaining}
+use Rattle.message.specs.Message.{msgOf, handleOf}
+use Rattle.call.specs.Step.{Sources}
 use Rattle.promises.specs.Calls.{Call, connecting, opening, messaging, Answer, Event}
 use Rattle.promises.specs.Told.{accepted, afterCall, cursorTold, heldCursor}
 

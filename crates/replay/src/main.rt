@@ -23,6 +23,6 @@ fn main() {
         os::fail(&path[..length]);
         return;
     }
-    calls::replay(fd, &path[..length]);
+    file_serve::replay(fd, &path[..length]);
     libc::close(fd);
 }

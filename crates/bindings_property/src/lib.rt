@@ -1,0 +1,82 @@
+// The properties of columns: the type and size of each against its property, and no property twice.
+ghost use mathlib.Core.Path.{_≡_};
+ghost use Prim.Native.Nat.{_+_, _≤_, _<_};
+ghost use lib.ListN.{length};
+ghost use Rattle.bindings_column.specs.Each.{every, pairwise};
+ghost use Rattle.bindings_column.specs.Column.{columnsMost, roomWords, columnAt, columnsFrom, columnsOf};
+ghost use Rattle.bindings_column.specs.Fit.{columnFits, unlike, differ};
+
+// The type and size of the k-th column, against its property.
+fn column_fits(words: &[u32], k: usize) -> bool
+    requires { ⌜ (length (now words) ≡ roomWords) × (k < columnsMost) ⌝ }
+    ensures { λ r. ⌜ r ≡ columnFits (columnAt (now (words .entry)) k) ⌝ }
+{
+    let at = bindings_column::COLUMN_WORDS * k;
+    let property = words[at];
+    let vtype = words[at + 1];
+    let used = words[at + 2];
+    let given = words[at + 4];
+    if !bindings_column::within(bindings_column::KEY, bindings_column::NOTE, property) {
+        return false;
+    }
+    let size = bindings_column::cell_size(property, vtype);
+    if size == 0 {
+        return false;
+    }
+    if used != 1 {
+        return true;
+    }
+    given == size
+}
+
+// The type and size of each column.
+pub fn columns_fit(words: &[u32], count: usize) -> bool
+    requires { ⌜ (length (now words) ≡ roomWords) × (count ≤ columnsMost) ⌝ }
+    ensures { λ r. ⌜ r ≡ every columnFits (columnsOf count (now (words .entry))) ⌝ }
+{
+    let mut k = 0;
+    let mut left = count;
+    while 0 < left {
+        if !column_fits(words, k) {
+            return false;
+        }
+        k += 1;
+        left -= 1;
+    }
+    true
+}
+
+// Whether none of so many columns from one on has a property.
+fn unbound(words: &[u32], from: usize, count: usize, property: u32) -> bool
+    requires { ⌜ (length (now words) ≡ roomWords) × (from + count ≤ columnsMost) ⌝ }
+    ensures { λ r. ⌜ r ≡ every (unlike property) (columnsFrom count from (now (words .entry))) ⌝ }
+{
+    let mut k = from;
+    let mut left = count;
+    while 0 < left {
+        if words[bindings_column::COLUMN_WORDS * k] == property {
+            return false;
+        }
+        k += 1;
+        left -= 1;
+    }
+    true
+}
+
+// Whether no property is bound twice.
+pub fn bound_once(words: &[u32], count: usize) -> bool
+    requires { ⌜ (length (now words) ≡ roomWords) × (count ≤ columnsMost) ⌝ }
+    ensures { λ r. ⌜ r ≡ pairwise differ (columnsOf count (now (words .entry))) ⌝ }
+{
+    let mut k = 0;
+    let mut left = count;
+    while 0 < left {
+        let property = words[bindings_column::COLUMN_WORDS * k];
+        k += 1;
+        left -= 1;
+        if !unbound(words, k, left, property) {
+            return false;
+        }
+    }
+    true
+}

@@ -1,0 +1,37 @@
+// The columns of a cursor as records of nine words: clearing their room, and keeping a column in it.
+ghost use mathlib.Core.Path.{_≡_};
+ghost use lib.ListN.{length};
+ghost use Rattle.bindings_column.specs.Column.{roomWords, noWords, kept};
+use bindings_column::Column;
+
+// Clears the room for five columns.
+pub fn clear(words: &mut [u32])
+    requires { ⌜ length (now words) ≡ roomWords ⌝ }
+    ensures { λ _. ⌜ now (words .exit) ≡ noWords ⌝ }
+{
+    let mut i = 0;
+    while i < words.len() {
+        words[i] = 0;
+        i += 1;
+    }
+}
+
+// Keeps a column as the k-th record, where there is room for it.
+pub fn keep(words: &mut [u32], k: usize, c: Column)
+    requires { ⌜ length (now words) ≡ roomWords ⌝ }
+    ensures { λ _. ⌜ now (words .exit) ≡ kept (now (words .entry)) k c ⌝ }
+{
+    if (bindings_column::COLUMNS_MOST as usize) <= k {
+        return;
+    }
+    let at = bindings_column::COLUMN_WORDS * k;
+    words[at] = c.property;
+    words[at + 1] = c.vtype;
+    words[at + 2] = c.value.used;
+    words[at + 3] = c.value.offset;
+    words[at + 4] = c.value.size;
+    words[at + 5] = c.status.used;
+    words[at + 6] = c.status.offset;
+    words[at + 7] = c.length.used;
+    words[at + 8] = c.length.offset;
+}

@@ -1,0 +1,45 @@
+// A message from a seat and its reply, over a lent table of sessions and a lent catalogue.
+ghost use lib.ListN.{length};
+ghost use Rattle.call.specs.Step.{sourcesOf, messageStep, Keeps};
+use call::Seat;
+use message::Answered;
+
+// A message from a seat.
+pub fn message(
+    table: &mut [u32],
+    catalogue: &[u8],
+    seat: Seat,
+    message: &[u8],
+    reply: &mut [u8],
+) -> Answered
+    ensures { λ r. ⌜ Keeps (messageStep (sourcesOf (now (catalogue .entry))) (now (table .entry)) (seat .0) (now (message .entry)) (length (now (reply .entry)))) (r .refusal) 0 (r .count) (now (table .exit)) (now (reply .entry)) (now (reply .exit)) ⌝ }
+{
+    let k = seat.0;
+    let mut places = [0u32; 1024];
+    let judged = call_judge::judge(table, catalogue, k, &mut places);
+    let refusal = judged.refusal;
+    if refusal != 0 {
+        return Answered { refusal, count: 0 };
+    }
+    if reply.len() < 16384 {
+        return Answered {
+            refusal: 4,
+            count: 0,
+        };
+    }
+    if message.len() < 16 {
+        return Answered {
+            refusal: 5,
+            count: 0,
+        };
+    }
+    if 16384 < message.len() {
+        return Answered {
+            refusal: 5,
+            count: 0,
+        };
+    }
+    let at = table::SEAT_SIZE * (k as usize);
+    let end = at + table::SEAT_SIZE;
+    message_answer::answer(&mut table[at..end], message, catalogue, &places, reply)
+}

@@ -1,0 +1,78 @@
+-- `catalogue_check::check` meets its contract: the size, the row count and the rows decide, each by a law. Assumes nothing.
+use borrow.Author.Needs.{needs}
+use Rattle.catalogue_check.proofs.check.Statement.{statement}
+use Rattle.catalogue_check.proofs.check.Tie as tie
+use mathlib.Core.Path.{sym, _∙_}
+use mathlib.Core.Bool.{true, false}
+use native.Mathlib.Omega.{arith}
+use Rattle.catalogue_number.proofs.Inside.{reading-read}
+use Rattle.catalogue_check.proofs.CheckLaws.{too-long, no-count, by-rows}
+
+returns : tie.Need-returns
+returns c =
+    let r = too-long (c .before .before .args .s .now) (c .before .before .args .places .now) (c .if1 .taken) in (r .told, r .left-is)
+
+read-requires : tie.Need-read-requires
+read-requires c κs = search needs
+
+enum-known-count : tie.Need-enum-known-count
+enum-known-count c = search needs
+
+enum-told : tie.Need-enum-told
+enum-told c = search needs
+
+returns-2 : tie.Need-returns-2
+returns-2 c =
+    let a = c .before .before .before .before .before .args in
+    let r = no-count (a .s .now) (a .places .now) (c .before .before .before .if1 .left) (sym (c .before .before .read .ensures) ∙ c .enum-told .given .1) in
+    (r .told, r .left-is)
+
+check-rows-requires : tie.Need-check-rows-requires
+check-rows-requires c κs =
+    let a = c .before .before .before .before .before .before .before .args in
+    let v = c .before .before .count .given in
+    let r = reading-read 1024 (a .s .now) 0 (v .0 .0) (v .0 .1 .0) (sym (c .before .before .before .before .read .ensures) ∙ v .1) in
+    (c .before .before .before .before .before .if1 .left, r .inside, r .small)
+
+cast-t10 : tie.Need-cast-t10
+cast-t10 c =
+    let a = c .before .before .before .before .before .before .before .before .before .args in
+    let v = c .before .before .before .before .count .given in
+    let r = reading-read 1024 (a .s .now) 0 (v .0 .0) (v .0 .1 .0) (sym (c .before .before .before .before .before .before .read .ensures) ∙ v .1) in
+    omega (arith, r .small)
+
+returns-3 : tie.Need-returns-3
+returns-3 c =
+    let a = c .before .before .before .before .before .before .before .before .before .args in
+    let v = c .before .before .before .before .count .given in
+    let r = by-rows (a .s .now) (a .places .now) (v .0 .0) (v .0 .1 .0) true (c .before .check-rows .last .1 .1 .1 .0)
+    (c .before .before .before .before .before .before .before .if1 .left)
+    (sym (c .before .before .before .before .before .before .read .ensures) ∙ v .1)
+    (sym (c .if2 .taken) ∙ c .before .check-rows .ensures .0)
+    (c .before .check-rows .ensures .1) in
+    (r .told, r .left-is)
+
+returns-4 : tie.Need-returns-4
+returns-4 c =
+    let a = c .before .before .before .before .before .before .before .before .before .args in
+    let v = c .before .before .before .before .count .given in
+    let r = by-rows (a .s .now) (a .places .now) (v .0 .0) (v .0 .1 .0) false (c .before .check-rows .last .1 .1 .1 .0)
+    (c .before .before .before .before .before .before .before .if1 .left)
+    (sym (c .before .before .before .before .before .before .read .ensures) ∙ v .1)
+    (sym (c .if2 .left) ∙ c .before .check-rows .ensures .0)
+    (c .before .check-rows .ensures .1) in
+    (r .told, r .left-is)
+
+pub check-spec : {M : Type 1} → statement M
+check-spec =
+    tie.close
+    (tie.spec
+    returns
+    read-requires
+    enum-known-count
+    enum-told
+    returns-2
+    check-rows-requires
+    cast-t10
+    returns-3
+    returns-4)

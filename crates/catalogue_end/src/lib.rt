@@ -1,0 +1,59 @@
+// The place after a text and after a row of the option catalogue, for the check, which keeps neither.
+ghost use mathlib.Core.Path.{_≡_};
+ghost use Rattle.wire_word.specs.Word.{halves};
+ghost use Rattle.catalogue.specs.Plain.{noneZero};
+ghost use Rattle.catalogue.specs.Places.{textAt, rowAt, textEnd, rowEnd};
+use catalogue_number::Reading;
+
+// No unit of a part is zero. There is no early return, so that many units are looked at in one step.
+fn none_zero(units: &[u8]) -> bool
+    ensures { λ r. ⌜ r ≡ noneZero (halves (now (units .entry))) ⌝ }
+{
+    let count = units.len() / 2;
+    let mut clear = true;
+    let mut i = 0;
+    while i < count {
+        if wire_word::half(units, 2 * i) == 0 {
+            clear = false;
+        }
+        i += 1;
+    }
+    clear
+}
+
+// The place after the text at a place, or 0: for the check, which keeps no text.
+fn text_end(s: &[u8], at: usize) -> usize
+    ensures { λ r. ⌜ r ≡ textEnd (textAt (now (s .entry)) at) ⌝ }
+{
+    let Reading::Number(size, start) = catalogue_read::read(s, at, catalogue::SIZE_MOST) else {
+        return 0;
+    };
+    let end = catalogue::units_end(size as usize, start);
+    if s.len() < end {
+        return 0;
+    }
+    if none_zero(&s[start..end]) {
+        return end;
+    }
+    0
+}
+
+// The place after the row at a place, or 0: for the check, which keeps no row.
+pub fn row_end(s: &[u8], at: usize) -> usize
+    ensures { λ r. ⌜ r ≡ rowEnd (rowAt (now (s .entry)) at) ⌝ }
+{
+    let Reading::Number(_, at1) = catalogue_read::read(s, at, catalogue::KEY_MOST) else {
+        return 0;
+    };
+    let Reading::Number(_, at2) = catalogue_read::read(s, at1, catalogue::NUMBER_MOST) else {
+        return 0;
+    };
+    let Reading::Number(_, at3) = catalogue_read::read(s, at2, catalogue::NUMBER_MOST) else {
+        return 0;
+    };
+    let at4 = text_end(s, at3);
+    if at4 == 0 {
+        return 0;
+    }
+    text_end(s, at4)
+}

@@ -1,0 +1,134 @@
+// The body of a request for rows, read to values.
+ghost use mathlib.Core.Path.{_≡_};
+ghost use Prim.Native.Nat.{_≤_};
+ghost use lib.ListN.{length};
+ghost use Rattle.fetch_request.specs.Request.{leastSize, inRange, seekFits, asked, request};
+ghost use Rattle.fetch_request.specs.Asking.{asking};
+
+const HANDLE_AT: usize = 16;
+
+const ASKED_AT: usize = 20;
+
+const WIDTH_AT: usize = 24;
+
+const SEEK_SIZE_AT: usize = 28;
+
+const RESERVED_AT: usize = 32;
+
+const SIZE_AT: usize = 36;
+
+const BASE_AT: usize = 40;
+
+const BACKWARD_AT: usize = 44;
+
+const SEEK_AT: usize = 48;
+
+const CHAPTER_AT: usize = 52;
+
+const SKIP_AT: usize = 56;
+
+const LEAST_SIZE: usize = 56;
+
+const NEXT_SIZE: usize = 60;
+
+const NEXT: u32 = 1;
+
+// What a request asks for: the cursor, how many rows of which width, the place of the first row, the reply's size, the client's
+// base, and the seek.
+pub struct Request {
+    pub handle: u32,
+    pub asked: u32,
+    pub width: u32,
+    pub from: u32,
+    pub size: u32,
+    pub base: u32,
+    pub backward: u32,
+    pub seek: u32,
+    pub chapter: u32,
+    pub skip: u32,
+}
+
+// A request, or a body that refusal 9 names.
+pub enum Asking {
+    Asked(Request),
+    Malformed,
+}
+
+// The numbers that have limits, apart from the seek.
+fn in_range(reserved: u32, size: u32, base: u32, backward: u32) -> bool
+    ensures { λ r. ⌜ r ≡ inRange reserved size base backward ⌝ }
+{
+    if reserved < 20 {
+        return false;
+    }
+    if 64 < reserved {
+        return false;
+    }
+    if size < 512 {
+        return false;
+    }
+    if 16384 < size {
+        return false;
+    }
+    if size % 512 != 0 {
+        return false;
+    }
+    if 0xFFFF_FFFF < (base as u64) + (size as u64) {
+        return false;
+    }
+    backward <= 1
+}
+
+// The size of the seek, which is judged for one kind of seek only.
+fn seek_fits(length: usize, seek: u32, told: u32) -> bool
+    ensures { λ r. ⌜ r ≡ seekFits length seek told ⌝ }
+{
+    if seek != NEXT {
+        return true;
+    }
+    if length != NEXT_SIZE {
+        return false;
+    }
+    told == 12
+}
+
+// The values of a message that is long enough.
+fn values(m: &[u8], reserved: u32) -> Request
+    requires { ⌜ (leastSize ≤ length (now m)) × (reserved ≤ 64) ⌝ }
+    ensures { λ r. ⌜ r ≡ asked reserved (now (m .entry)) ⌝ }
+{
+    Request {
+        handle: wire_word::word(m, HANDLE_AT),
+        asked: wire_word::word(m, ASKED_AT),
+        width: wire_word::word(m, WIDTH_AT),
+        from: reserved + 12,
+        size: wire_word::word(m, SIZE_AT),
+        base: wire_word::word(m, BASE_AT),
+        backward: wire_word::word(m, BACKWARD_AT),
+        seek: wire_word::word(m, SEEK_AT),
+        chapter: wire_word::word(m, CHAPTER_AT),
+        skip: wire_word::last_word(m, SKIP_AT),
+    }
+}
+
+// Reads the body of a message.
+pub fn read(m: &[u8]) -> Asking
+    ensures { λ r. ⌜ r ≡ asking (request (now (m .entry))) ⌝ }
+{
+    if m.len() < LEAST_SIZE {
+        return Asking::Malformed;
+    }
+    let reserved = wire_word::word(m, RESERVED_AT);
+    let size = wire_word::word(m, SIZE_AT);
+    let base = wire_word::word(m, BASE_AT);
+    let backward = wire_word::word(m, BACKWARD_AT);
+    if !in_range(reserved, size, base, backward) {
+        return Asking::Malformed;
+    }
+    let seek = wire_word::word(m, SEEK_AT);
+    let told = wire_word::word(m, SEEK_SIZE_AT);
+    if !seek_fits(m.len(), seek, told) {
+        return Asking::Malformed;
+    }
+    Asking::Asked(values(m, reserved))
+}

@@ -1,0 +1,139 @@
+// One call of a calls file: it is served, and the answer is laid in the output.
+ghost use Prim.Native.Nat.{_+_, _/_, _<_, _≤_};
+ghost use lib.ListN.{length};
+ghost use Rattle.line_word.specs.Digits.{hexBytes};
+ghost use Rattle.line_call.specs.Line.{bytesMost, catalogueMost, indexMost, roomMost, Fits};
+ghost use Rattle.call.specs.Step.{sourcesOf, messageStep, openStep};
+ghost use Rattle.file_serve.specs.Room.{answerMost};
+ghost use Rattle.file_serve.specs.Served.{opened, replied, answerTo, Serves, lentOf, lentBy, Lends};
+use line_call::Call;
+
+// The catalogue that is lent from this line on. Answers its length.
+pub fn lend(call: Call, line: &[u8], catalogue: &mut [u8], lent: usize) -> usize
+    requires { ⌜ Fits (length (now line)) call × (lent ≤ catalogueMost) × (catalogueMost ≤ length (now catalogue)) ⌝ }
+    ensures { λ r. ⌜ Lends (lentBy call (now (line .entry)) (lentOf lent (now (catalogue .entry)))) r (now (catalogue .exit)) ⌝ }
+{
+    match call {
+        Call::Nothing => lent,
+        Call::Fault(_) => lent,
+        Call::Catalogue(first, last) => line_answer::load(&line[first..last], catalogue),
+        Call::Connect(_, _) => lent,
+        Call::Open(_, _, _) => lent,
+        Call::Message(_, _, _, _) => lent,
+        Call::Word(_, _) => lent,
+    }
+}
+
+// Serves a message, with a reply buffer that is filled first.
+fn reply(
+    table: &mut [u32],
+    catalogue: &[u8],
+    seat: u32,
+    bytes: &[u8],
+    space: &mut [u8],
+    out: &mut [u8],
+    used: usize,
+) -> usize
+    requires { ⌜ (length (now space) ≤ roomMost) × (used + answerMost ≤ length (now out)) ⌝ }
+    ensures { λ r. ⌜ Serves (replied (messageStep (sourcesOf (now (catalogue .entry))) (now (table .entry)) seat (now (bytes .entry)) (length (now (space .entry))))) used r (now (table .exit)) (now (out .entry)) (now (out .exit)) ⌝ }
+{
+    line_text::fill(space);
+    let answered = call_message::message(table, catalogue, call::Seat(seat), bytes, space);
+    let refusal = answered.refusal;
+    let count = answered.count;
+    line_answer::put_message(out, used, refusal, space, count as usize)
+}
+
+// Serves the message whose digits stand in a part of the line.
+fn message(
+    table: &mut [u32],
+    catalogue: &[u8],
+    seat: u32,
+    room: usize,
+    digits: &[u8],
+    out: &mut [u8],
+    used: usize,
+) -> usize
+    requires { ⌜ (room ≤ roomMost) × (length (now digits) / 2 ≤ bytesMost) × (used + answerMost ≤ length (now out)) ⌝ }
+    ensures { λ r. ⌜ Serves (replied (messageStep (sourcesOf (now (catalogue .entry))) (now (table .entry)) seat (hexBytes (now (digits .entry))) room)) used r (now (table .exit)) (now (out .entry)) (now (out .exit)) ⌝ }
+{
+    let mut bytes = [0u8; 20000];
+    let mut space = [0u8; 20000];
+    let size = line_answer::load(digits, &mut bytes);
+    reply(
+        table,
+        catalogue,
+        seat,
+        &bytes[0..size],
+        &mut space[0..room],
+        out,
+        used,
+    )
+}
+
+// Serves the opening whose tree's digits stand in a part of the line.
+fn open(
+    table: &mut [u32],
+    catalogue: &[u8],
+    seat: u32,
+    digits: &[u8],
+    out: &mut [u8],
+    used: usize,
+) -> usize
+    requires { ⌜ (length (now digits) / 2 ≤ bytesMost) × (used + answerMost ≤ length (now out)) ⌝ }
+    ensures { λ r. ⌜ Serves (opened (openStep (sourcesOf (now (catalogue .entry))) (now (table .entry)) seat (hexBytes (now (digits .entry))))) used r (now (table .exit)) (now (out .entry)) (now (out .exit)) ⌝ }
+{
+    let mut bytes = [0u8; 20000];
+    let size = line_answer::load(digits, &mut bytes);
+    let opened = call_open::open(table, catalogue, call::Seat(seat), &bytes[0..size]);
+    let refusal = opened.refusal;
+    let handle = opened.handle;
+    let number = handle.0;
+    line_answer::put_open(out, used, refusal, number)
+}
+
+// Serves the call that the line is. Answers how many bytes of the output are then in use.
+pub fn serve(
+    call: Call,
+    line: &[u8],
+    number: u64,
+    table: &mut [u32],
+    catalogue: &[u8],
+    out: &mut [u8],
+    used: usize,
+) -> usize
+    requires { ⌜ Fits (length (now line)) call × (indexMost < length (now table)) × (used + answerMost ≤ length (now out)) ⌝ }
+    ensures { λ r. ⌜ Serves (answerTo call (now (line .entry)) number (now (table .entry)) (now (catalogue .entry))) used r (now (table .exit)) (now (out .entry)) (now (out .exit)) ⌝ }
+{
+    match call {
+        Call::Nothing => used,
+        Call::Fault(reason) => line_answer::put_error(out, used, number, reason),
+        Call::Catalogue(_, _) => used,
+        Call::Connect(seat, version) => {
+            let refusal = call_connect::connect(table, catalogue, call::Seat(seat), version);
+            line_answer::put_connect(out, used, refusal)
+        }
+        Call::Open(seat, first, last) => open(
+            table,
+            catalogue,
+            seat,
+            &line[first..last],
+            out,
+            used,
+        ),
+        Call::Message(seat, room, first, last) => message(
+            table,
+            catalogue,
+            seat,
+            room as usize,
+            &line[first..last],
+            out,
+            used,
+        ),
+        Call::Word(index, value) => {
+            let at = index as usize;
+            table[at] = value;
+            used
+        }
+    }
+}

@@ -1,0 +1,159 @@
+-- Setting bindings: the causes of its body, and what it leaves where none applies. Assumes nothing.
+use mathlib.Core.Path.{_≡_, refl, sym, ap, ap₂, _∙_}
+use mathlib.Core.Bool.{true, false}
+use mathlib.Core.List.{List, _++_}
+use mathlib.Core.Option.{Option, none, some}
+use Prim.Native.Nat.{ℕ, _-_}
+use native.Mathlib.Omega.{arith}
+use lib.Dec.{leb, eqb}
+use lib.ListN.{length, take, drop, set}
+use lib.Seq.{take-at, drop-at, take-all}
+use Rattle.wire_word.specs.Below.{pick}
+use Rattle.wire_word.specs.Word.{numberAt, le}
+use Rattle.wire_word.proofs.Below.{by-test, true≢false}
+use Rattle.wire_word.proofs.Options.{none≢some, some-is}
+use Rattle.catalogue.specs.Plain.{Row}
+use Rattle.bindings_column.specs.Column.{wordsOf}
+use Rattle.bindings_column.specs.Fit.{fit}
+use Rattle.bindings_column.specs.declared.Column.{Column}
+use Rattle.bindings_read.specs.Bindings.{Bindings, columnsOn, withColumns, bindingsOn, handleAt, widthAt, describedAt, countAt, columnsAt}
+use Rattle.bindings_read.specs.Plain.{bindings}
+use Rattle.bindings_read.specs.Told.{answer, wordsRead, Told}
+use Rattle.bindings_read.specs.declared.BindingsRead.{BindingsRead}
+use Rattle.bindings_read.proofs.Agree.{bindings-agree}
+use Rattle.wire_lay.specs.Laid.{lay, fourWords}
+use Rattle.table.specs.Layout.{cursorSize, cursorPlace, part, put}
+use Rattle.table.specs.Seat.{Cursor, Seat, cursorBlock, seatBlock, seatIn, seatOf, cursorIn, rebound}
+use Rattle.table.specs.Fits.{CursorOk}
+use Rattle.table.proofs.Seats.{cursor-block}
+use Rattle.table.proofs.Writes.{rebound-block}
+use Rattle.refusal.specs.Refusal.{firstCause}
+use Rattle.message.specs.Message.{handleOf, isOpen, bodyCauses, boundTo, reboundAt, doneOn, seatMessage}
+use Rattle.message.specs.Answers.{Admitted, Answers}
+use Rattle.message.proofs.Answering.{lay-front, seat-is, seat-fits, body-done}
+use Rattle.message.proofs.Bodies.{put-handle}
+
+-- the handle that a body was read to is that of its first word
+pub handle-is : (m : List ℕ) (x : Bindings) → bindings m ≡ some x → x .handle ≡ handleOf m
+unfolding bindingsOn
+handle-is m x e =
+    by-test (leb columnsAt (length m))
+    (λ q.
+    by-test (eqb (numberAt 4 m describedAt) (length m - countAt))
+    (λ d. columns (columnsOn (numberAt 4 m countAt) m columnsAt) (rw (q, d) at on))
+    (λ d. absurd (none≢some (rw (q, d) at on))))
+    (λ q. absurd (none≢some (rw q at on)))
+  where
+    on : bindingsOn m ≡ some x
+    on = sym (bindings-agree m) ∙ e
+
+    columns : (o : Option (List Column))
+        → withColumns o (λ s. some (record { handle = numberAt 4 m handleAt; width = numberAt 4 m widthAt; columns = s })) ≡ some x
+        → x .handle ≡ handleOf m
+    columns none w = absurd (none≢some w)
+    columns (some s) w = sym (ap (λ (b : Bindings). b .handle) (some-is w))
+
+pub open-some : (o : Option Cursor) → isOpen o ≡ true → (c : Cursor) × (o ≡ some c)
+open-some none e = absurd (true≢false (sym e))
+open-some (some c) e = (c, refl)
+
+-- the part of a handle's cursor is that cursor's block
+pub part-handle : (s : Seat) (handle : ℕ) (c : Cursor) → CursorOk (s .first) → CursorOk (s .second) → cursorIn s handle ≡ some c
+    → part (seatBlock (some s)) (cursorPlace handle) cursorSize ≡ cursorBlock (some c)
+part-handle s handle c f g e =
+    by-test (eqb handle 1)
+    (λ q. rw q (take-at (cursorBlock (s .first)) (cursorBlock (s .second)) cursorSize (cursor-block (s .first) f .size) ∙ ap cursorBlock (rw q at e)))
+    (λ q. rw q (second (rw q at e)))
+  where
+    second : pick (eqb handle 2) (s .second) none ≡ some c
+        → take cursorSize (drop cursorSize (cursorBlock (s .first) ++ cursorBlock (s .second))) ≡ cursorBlock (some c)
+    second w =
+        by-test (eqb handle 2)
+        (λ k.
+        ap (take cursorSize) (drop-at (cursorBlock (s .first)) (cursorBlock (s .second)) cursorSize (cursor-block (s .first) f .size))
+        ∙ take-all cursorSize (cursorBlock (s .second)) (omega (arith, cursor-block (s .second) g .size))
+        ∙ ap cursorBlock (rw k at w))
+        (λ k. absurd (none≢some (rw k at w)))
+
+module _ (b m reply : List ℕ) (msg : ℕ) (a : Admitted b m reply msg 3) (rows : List Row) where
+  pub not-read : bindings m ≡ none → firstCause (bodyCauses rows 3 (seatIn b) m) ≡ 9
+  unfolding firstCause
+  not-read e = rw e
+
+  pub not-opened : (x : Bindings) → bindings m ≡ some x → isOpen (cursorIn (seatIn b) (handleOf m)) ≡ false → firstCause (bodyCauses rows 3 (seatIn b) m) ≡ 10
+  unfolding firstCause
+  not-opened x e o = rw (e, o)
+
+  pub not-fit : (x : Bindings) → bindings m ≡ some x → isOpen (cursorIn (seatIn b) (handleOf m)) ≡ true → fit (x .width) (x .columns) ≡ false
+      → firstCause (bodyCauses rows 3 (seatIn b) m) ≡ 12
+  unfolding firstCause
+  not-fit x e o f = rw (e, o, f)
+
+  bound-block : (x : Bindings) → bindings m ≡ some x → (c : Cursor) × (cursorIn (seatIn b) (handleOf m) ≡ some c)
+      → reboundAt b (handleOf m) (wordsOf (x .columns)) (length (x .columns)) (x .width)
+      ≡ seatBlock (some (boundTo (seatIn b) (handleOf m) (cursorIn (seatIn b) (handleOf m)) (bindings m)))
+  bound-block x e k =
+      ap (λ (y : List ℕ). reboundAt y (handleOf m) (wordsOf (x .columns)) (length (x .columns)) (x .width)) (seat-is b m reply msg 3 a)
+      ∙ ap
+      (λ (y : List ℕ).
+      put (seatBlock (some (seatIn b))) (cursorPlace (handleOf m)) cursorSize
+      (put (set (set y 3 (length (x .columns))) 4 (x .width)) 5 45 (wordsOf (x .columns))))
+      (part-handle (seatIn b) (handleOf m) (k .0) (fits .0) (fits .1) (k .1))
+      ∙ ap (put (seatBlock (some (seatIn b))) (cursorPlace (handleOf m)) cursorSize) (rebound-block (k .0) (x .width) (x .columns))
+      ∙ put-handle (seatIn b) (handleOf m) (some (rebound (k .0) (x .width) (x .columns))) (fits .0) (fits .1)
+      ∙ ap₂ (λ (o : Option Cursor) (y : Option Bindings). seatBlock (some (boundTo (seatIn b) (handleOf m) o y))) (sym (k .1)) (sym e)
+    where
+      fits : CursorOk (seatIn b .first) × CursorOk (seatIn b .second)
+      fits = seat-fits b m reply msg 3 a
+
+  pub bound-answers : (x : Bindings) → bindings m ≡ some x → isOpen (cursorIn (seatIn b) (handleOf m)) ≡ true → fit (x .width) (x .columns) ≡ true
+      → (block exit : List ℕ) → block ≡ reboundAt b (handleOf m) (wordsOf (x .columns)) (length (x .columns)) (x .width)
+      → exit ≡ lay reply 0 (fourWords msg 0 0 0)
+      → Answers (seatMessage rows (seatOf b) m) (record { refusal = 0; count = 16 }) block reply exit
+  unfolding firstCause le
+  bound-answers x e o f block exit p w =
+      let d : seatMessage rows (seatOf b) m ≡ doneOn rows 3 (seatIn b) m = body-done b m reply msg 3 a rows (rw (e, o, f)) in
+      rw d
+      record {
+        refused = refl;
+        counted = refl;
+        kept = p ∙ bound-block x e (open-some (cursorIn (seatIn b) (handleOf m)) o);
+        written = w ∙ lay-front reply (fourWords msg 0 0 0) ∙ ap (λ (k : ℕ). fourWords k 0 0 0 ++ drop 16 reply) (a .msg-is);
+      }
+
+-- what the reader of a body told
+pub told-none : (m : List ℕ) (r : BindingsRead) (exit : List ℕ) → Told m r exit → r .malformed ≡ true → bindings m ≡ none
+told-none m r exit t e = go (bindings m) refl
+  where
+    go : (o : Option Bindings) → bindings m ≡ o → bindings m ≡ none
+    go none p = p
+    go (some x) p = absurd (true≢false (sym e ∙ ap (λ (k : BindingsRead). k .malformed) (t .answered ∙ ap answer p)))
+
+pub record ReadAs (m : List ℕ) (r : BindingsRead) (exit : List ℕ) (x : Bindings) : Type 0 where
+  pub is : bindings m ≡ some x
+  pub handle : r .handle ≡ handleOf m
+  pub width : r .width ≡ x .width
+  pub count : r .count ≡ length (x .columns)
+  pub words : exit ≡ wordsOf (x .columns)
+
+pub told-some : (m : List ℕ) (r : BindingsRead) (exit : List ℕ) → Told m r exit → r .malformed ≡ false → (x : Bindings) × ReadAs m r exit x
+told-some m r exit t e = go (bindings m) refl
+  where
+    go : (o : Option Bindings) → bindings m ≡ o → (x : Bindings) × ReadAs m r exit x
+    go none p = absurd (true≢false (sym (ap (λ (k : BindingsRead). k .malformed) (t .answered ∙ ap answer p)) ∙ e))
+    go (some x) p =
+        let a = t .answered ∙ ap answer p in (
+          x,
+          record {
+            is = p;
+            handle = ap (λ (k : BindingsRead). k .handle) a ∙ handle-is m x p;
+            width = ap (λ (k : BindingsRead). k .width) a;
+            count = ap (λ (k : BindingsRead). k .count) a;
+            words = t .left ∙ ap wordsRead p;
+          },
+        )
+
+pub rebound-is : (b m records : List ℕ) (x : Bindings) (handle count width : ℕ) → handle ≡ handleOf m → records ≡ wordsOf (x .columns)
+    → count ≡ length (x .columns) → width ≡ x .width
+    → reboundAt b handle records count width ≡ reboundAt b (handleOf m) (wordsOf (x .columns)) (length (x .columns)) (x .width)
+rebound-is b m records x handle count width h r c w = cc

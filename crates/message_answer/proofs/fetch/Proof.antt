@@ -1,0 +1,193 @@
+-- `message_answer::fetch` meets its contract: the request is read, the handle is judged, and the cursor's part is lent to be fetched from. Assumes nothing.
+use borrow.Author.Needs.{needs}
+use Rattle.message_answer.proofs.fetch.Statement.{statement}
+use Rattle.message_answer.proofs.fetch.Tie as tie
+use Rattle.message.proofs.Rows.{not-asked, rows-closed, found-inside, ready-at, refusal-small, refused-at, answered-at}
+use Rattle.message.proofs.Answering.{block-is, refused-answers, body-refused}
+use Rattle.message.specs.Message.{isOpen}
+use Rattle.fetch.specs.Ready.{rowsOf}
+use Rattle.fetch_request.proofs.Ranges.{request-handle, asked-is, malformed-is}
+use Rattle.fetch_request.specs.Request.{request}
+use Rattle.table.specs.Seat.{seatIn, cursorIn}
+use Rattle.catalogue.specs.Plain.{catalogue}
+use borrow.Author.Tests.{not-true, not-false}
+use native.Mathlib.Omega.{arith}
+use Prim.Native.Nat.{ℕ}
+use mathlib.Core.Path.{sym, ap, _∙_}
+
+read-requires : tie.Need-read-requires
+read-requires c κs = search needs
+
+enum-known-q : tie.Need-enum-known-q
+enum-known-q c = search needs
+
+enum-told : tie.Need-enum-told
+enum-told c = search needs
+
+refuse-requires : tie.Need-refuse-requires
+refuse-requires c κs = search needs
+
+same-length : tie.Need-same-length
+same-length c = search needs
+
+returns : tie.Need-returns
+returns c =
+    let a = c .before .before .before .before .before .before .before .before .before .before .before .before in
+    let b = a .args .block .now in
+    let m = a .args .m .now in
+    let s = a .args .s .now in
+    let reply = a .args .reply .now in
+    let msg = a .args .msg in
+    refused-answers (rowsOf (catalogue s)) b m reply _ msg 9 _ (block-is b m reply (a .pre .0 .given)) (a .pre .0 .msg-is)
+    (body-refused b m reply msg 2 (a .pre .0) (rowsOf (catalogue s)) 9
+    (not-asked b m reply msg (a .pre .0) s (a .args .places .now) (a .pre .1) (malformed-is (request m) (sym (c .before .before .before .before .before .before .read .ensures) ∙ c .before .before .before .before .enum-told .given .1)))
+    (λ z. omega arith))
+    (c .before .before .refuse .ensures .0)
+    (c .before .before .refuse .ensures .1)
+
+is-open-requires : tie.Need-is-open-requires
+is-open-requires c κs = search needs
+
+refuse-requires-2 : tie.Need-refuse-requires-2
+refuse-requires-2 c κs = search needs
+
+same-length-2 : tie.Need-same-length-2
+same-length-2 c = search needs
+
+same-length-3 : tie.Need-same-length-3
+same-length-3 c = search needs
+
+returns-2 : tie.Need-returns-2
+returns-2 c =
+    let a = c .before .before .before .before .before .before .before .before .before .before .before .before .before .before .before .before in
+    let b = a .args .block .now in
+    let m = a .args .m .now in
+    let s = a .args .s .now in
+    let reply = a .args .reply .now in
+    let msg = a .args .msg in
+    let e = asked-is (request m) (sym (c .before .before .before .before .before .before .before .before .before .before .read .ensures) ∙ c .before .before .before .before .before .before .before .before .q .given .1) in
+    refused-answers (rowsOf (catalogue s)) b m reply _ msg 10 _ (block-is b m reply (a .pre .0 .given)) (a .pre .0 .msg-is)
+    (body-refused b m reply msg 2 (a .pre .0) (rowsOf (catalogue s)) 10
+    (rows-closed b m reply msg (a .pre .0) s (a .args .places .now) (a .pre .1) _ e
+    (ap (λ (h : ℕ). isOpen (cursorIn (seatIn b) h)) (sym (request-handle m _ e)) ∙ sym (c .before .before .before .before .before .is-open .ensures) ∙ not-true _ (c .before .before .before .before .if1 .taken)))
+    (λ z. omega arith))
+    (c .before .before .refuse2 .ensures .0)
+    (c .before .before .refuse2 .ensures .1)
+
+cursor-at-requires : tie.Need-cursor-at-requires
+cursor-at-requires c κs = search needs
+
+add-end : tie.Need-add-end
+add-end c =
+    let a = c .before .before .before .before .before .before .before .before .before .before .before .before .before in
+    let m = a .args .m .now in
+    let e = asked-is (request m) (sym (c .before .before .before .before .before .before .before .read .ensures) ∙ c .before .before .before .before .before .q .given .1) in
+    omega (arith, a .pre .0 .given .size, found-inside (a .args .block .now) m (a .args .reply .now) (a .args .msg) (a .pre .0) (a .args .s .now) (a .args .places .now) (a .pre .1) _ e _ (c .cursor-at .ensures))
+
+mul-fetch : tie.Need-mul-fetch
+mul-fetch c =
+    let a = c .before .before .before .before .before .before .before .before .before .before .before .before .before in
+    let m = a .args .m .now in
+    let e = asked-is (request m) (sym (c .before .before .before .before .before .before .before .read .ensures) ∙ c .before .before .before .before .before .q .given .1) in
+    omega (arith, a .pre .0 .given .size, found-inside (a .args .block .now) m (a .args .reply .now) (a .args .msg) (a .pre .0) (a .args .s .now) (a .args .places .now) (a .pre .1) _ e _ (c .cursor-at .ensures))
+
+sub-fetch : tie.Need-sub-fetch
+sub-fetch c = search needs
+
+part-fetch-start : tie.Need-part-fetch-start
+part-fetch-start c = search needs
+
+part-fetch-end : tie.Need-part-fetch-end
+part-fetch-end c =
+    let a = c .before .before .before .before .before .before .before .before .before .before .before .before .before in
+    let m = a .args .m .now in
+    let e = asked-is (request m) (sym (c .before .before .before .before .before .before .before .read .ensures) ∙ c .before .before .before .before .before .q .given .1) in
+    omega (arith, a .pre .0 .given .size, found-inside (a .args .block .now) m (a .args .reply .now) (a .args .msg) (a .pre .0) (a .args .s .now) (a .args .places .now) (a .pre .1) _ e _ (c .cursor-at .ensures))
+
+fetch-requires : tie.Need-fetch-requires
+fetch-requires c κs =
+    let a = c .before .before .before .before .before .before .before .before .before .before .before .before .before .before .before in
+    let b = a .args .block .now in
+    let m = a .args .m .now in
+    let s = a .args .s .now in
+    let reply = a .args .reply .now in
+    let msg = a .args .msg in
+    let e = asked-is (request m) (sym (c .before .before .before .before .before .before .before .before .before .read .ensures) ∙ c .before .before .before .before .before .before .before .q .given .1) in
+    ready-at b m reply msg (a .pre .0) s (a .args .places .now) (a .pre .1) _ e (sym (c .before .before .before .before .is-open .ensures) ∙ not-false _ (c .before .before .before .if1 .left)) _ (c .before .before .cursor-at .ensures)
+
+refuse-requires-3 : tie.Need-refuse-requires-3
+refuse-requires-3 c κs =
+    let a = c .before .before .before .before .before .before .before .before .before .before .before .before .before .before .before .before .before .before .before .before .before .before in
+    let b = a .args .block .now in
+    let m = a .args .m .now in
+    let s = a .args .s .now in
+    let reply = a .args .reply .now in
+    let msg = a .args .msg in
+    let e = asked-is (request m) (sym (c .before .before .before .before .before .before .before .before .before .before .before .before .before .before .before .before .read .ensures) ∙ c .before .before .before .before .before .before .before .before .before .before .before .before .before .before .q .given .1) in
+    (omega (arith, a .pre .0 .given .room), refusal-small b m reply msg (a .pre .0) s (a .args .places .now) (a .pre .1) _ e (sym (c .before .before .before .before .before .before .before .before .before .before .before .is-open .ensures) ∙ not-false _ (c .before .before .before .before .before .before .before .before .before .before .if1 .left)) _ (c .before .before .before .before .before .before .before .before .before .cursor-at .ensures) _ _ _ (c .before .before .before .before .before .before .fetch .ensures))
+
+same-length-4 : tie.Need-same-length-4
+same-length-4 c = search needs
+
+same-length-5 : tie.Need-same-length-5
+same-length-5 c = search needs
+
+returns-3 : tie.Need-returns-3
+returns-3 c =
+    let a = c .before .before .before .before .before .before .before .before .before .before .before .before .before .before .before .before .before .before .before .before .before .before .before .before .before in
+    let b = a .args .block .now in
+    let m = a .args .m .now in
+    let s = a .args .s .now in
+    let reply = a .args .reply .now in
+    let msg = a .args .msg in
+    let e = asked-is (request m) (sym (c .before .before .before .before .before .before .before .before .before .before .before .before .before .before .before .before .before .before .before .read .ensures) ∙ c .before .before .before .before .before .before .before .before .before .before .before .before .before .before .before .before .before .q .given .1) in
+    refused-at b m reply msg (a .pre .0) s (a .args .places .now) (a .pre .1) _ e (sym (c .before .before .before .before .before .before .before .before .before .before .before .before .before .before .is-open .ensures) ∙ not-false _ (c .before .before .before .before .before .before .before .before .before .before .before .before .before .if1 .left)) _ (c .before .before .before .before .before .before .before .before .before .before .before .before .cursor-at .ensures) _ _ _ (c .before .before .before .before .before .before .before .before .before .fetch .ensures) (c .before .before .before .before .if2 .taken) _ _
+    (c .before .before .refuse3 .ensures .0)
+    (c .before .before .refuse3 .ensures .1)
+
+same-length-6 : tie.Need-same-length-6
+same-length-6 c = search needs
+
+same-length-7 : tie.Need-same-length-7
+same-length-7 c = search needs
+
+returns-4 : tie.Need-returns-4
+returns-4 c =
+    let a = c .before .before .before .before .before .before .before .before .before .before .before .before .before .before .before .before .before .before .before .before .before in
+    let b = a .args .block .now in
+    let m = a .args .m .now in
+    let s = a .args .s .now in
+    let reply = a .args .reply .now in
+    let msg = a .args .msg in
+    let e = asked-is (request m) (sym (c .before .before .before .before .before .before .before .before .before .before .before .before .before .before .before .read .ensures) ∙ c .before .before .before .before .before .before .before .before .before .before .before .before .before .q .given .1) in
+    answered-at b m reply msg (a .pre .0) s (a .args .places .now) (a .pre .1) _ e (sym (c .before .before .before .before .before .before .before .before .before .before .is-open .ensures) ∙ not-false _ (c .before .before .before .before .before .before .before .before .before .if1 .left)) _ (c .before .before .before .before .before .before .before .before .cursor-at .ensures) _ _ _ (c .before .before .before .before .before .fetch .ensures) (c .if2 .left)
+
+pub fetch-spec : {M : Type 1} → statement M
+fetch-spec =
+    tie.close
+    (tie.spec
+    read-requires
+    enum-known-q
+    enum-told
+    refuse-requires
+    same-length
+    returns
+    is-open-requires
+    refuse-requires-2
+    same-length-2
+    same-length-3
+    returns-2
+    cursor-at-requires
+    add-end
+    mul-fetch
+    sub-fetch
+    part-fetch-start
+    part-fetch-end
+    fetch-requires
+    refuse-requires-3
+    same-length-4
+    same-length-5
+    returns-3
+    same-length-6
+    same-length-7
+    returns-4)

@@ -1,0 +1,62 @@
+-- `message_close::close` meets its contract: the cursor's part of the block is cleared. Assumes nothing.
+use borrow.Author.Needs.{needs}
+use Rattle.message_close.proofs.close.Statement.{statement}
+use Rattle.message_close.proofs.close.Tie as tie
+use mathlib.Core.Path.{ap, ap₂, _∙_}
+use Prim.Native.Nat.{ℕ, _+_, _≤_}
+use native.Mathlib.Omega.{arith}
+use mathlib.Core.List.{List}
+use lib.ListN.{length}
+use Rattle.table.specs.Layout.{cursorSize, put}
+use Rattle.table.specs.Seat.{zeros}
+use Rattle.table.proofs.Tables.{part-length}
+use Rattle.table.proofs.Judging.{part-is}
+use Rattle.message.proofs.Handles.{place-inside, put-is}
+
+cursor-at-requires : tie.Need-cursor-at-requires
+cursor-at-requires c κs = search needs
+
+add-end : tie.Need-add-end
+add-end c = omega (arith, c .cursor-at .ensures, place-inside (c .before .before .args .handle))
+
+mul-clear : tie.Need-mul-clear
+mul-clear c = omega (arith, c .cursor-at .ensures, place-inside (c .before .before .args .handle))
+
+sub-clear : tie.Need-sub-clear
+sub-clear c = search needs
+
+part-clear-start : tie.Need-part-clear-start
+part-clear-start c = search needs
+
+part-clear-end : tie.Need-part-clear-end
+part-clear-end c = omega (arith, c .cursor-at .ensures, place-inside (c .before .before .args .handle))
+
+clear-requires : tie.Need-clear-requires
+clear-requires c κs = search needs
+
+same-length : tie.Need-same-length
+same-length c = search needs
+
+returns : tie.Need-returns
+returns c =
+    let a = c .before .before .before .before .before .before in
+    let b = a .args .block .now in
+    let at = c .before .before .before .before .cursor-at .result in
+    let inside : at + cursorSize ≤ length b = omega (arith, a .pre, c .before .before .before .before .cursor-at .ensures, place-inside (a .args .handle)) in
+    put-is b at (c .before .before .clear .last .0)
+    ∙ ap₂ (λ (p : ℕ) (x : List ℕ). put b p cursorSize x) (c .before .before .before .before .cursor-at .ensures)
+    (c .before .before .clear .ensures ∙ ap zeros (ap length (part-is b at cursorSize) ∙ part-length b at cursorSize inside))
+
+pub close-spec : {M : Type 1} → statement M
+close-spec =
+    tie.close
+    (tie.spec
+    cursor-at-requires
+    add-end
+    mul-clear
+    sub-clear
+    part-clear-start
+    part-clear-end
+    clear-requires
+    same-length
+    returns)

@@ -1,0 +1,70 @@
+// What every message is judged by: its kind, refusals 6 to 8, and the reply of a refusal.
+ghost use mathlib.Core.Path.{_≡_};
+ghost use Prim.Native.Nat.{_≤_, _<_};
+ghost use lib.ListN.{length};
+ghost use Rattle.wire_lay.specs.Laid.{lay, fourWords};
+ghost use Rattle.table.specs.Layout.{seatSize};
+ghost use Rattle.table.specs.Seat.{seatOf};
+ghost use Rattle.refusal.specs.Refusal.{firstCause, statusOf};
+ghost use Rattle.message.specs.Message.{kinds, kindOf, tested, msgOf, gateCauses};
+use message::Answered;
+
+// The messages served: each its number, and 1 where its checksum is tested.
+const MESSAGES: [u32; 8] = [0xC9, 0, 0xCB, 0, 0xCC, 1, 0xD0, 1];
+
+const KINDS: usize = 4;
+
+// The kind of a message: its place among those served, else their count.
+pub fn kind(msg: u32) -> usize
+    ensures { λ r. ⌜ r ≡ kindOf msg ⌝ }
+{
+    let mut k = 0;
+    while k < KINDS {
+        if MESSAGES[2 * k] == msg {
+            return k;
+        }
+        k += 1;
+    }
+    k
+}
+
+fn tested(kind: usize) -> bool
+    requires { ⌜ kind < kinds ⌝ }
+    ensures { λ r. ⌜ r ≡ tested kind ⌝ }
+{
+    MESSAGES[2 * kind + 1] == 1
+}
+
+// Refusals 6 to 8.
+pub fn gate(block: &[u32], m: &[u8], kind: usize) -> u32
+    requires { ⌜ (length (now block) ≡ seatSize) × (16 ≤ length (now m)) × (length (now m) ≤ 16384) × (kind ≡ kindOf (msgOf (now m))) ⌝ }
+    ensures { λ r. ⌜ r ≡ firstCause (gateCauses (seatOf (now (block .entry))) (now (m .entry))) ⌝ }
+{
+    if KINDS <= kind {
+        return 6;
+    }
+    if block[0] == 0 {
+        return 7;
+    }
+    if block[1] < 8 {
+        return 0;
+    }
+    if !tested(kind) {
+        return 0;
+    }
+    let told = wire_word::word(m, 8) as u64;
+    if told == wire_checksum::checksum(m) {
+        return 0;
+    }
+    8
+}
+
+// A refusal from 6 on: the header with its status.
+pub fn refuse(reply: &mut [u8], msg: u32, refusal: u32) -> Answered
+    requires { ⌜ (16 ≤ length (now reply)) × (refusal < 17) ⌝ }
+    ensures { λ r. ⌜ (r ≡ record { refusal = refusal; count = 16 }) × (now (reply .exit) ≡ lay (now (reply .entry)) 0 (fourWords msg (statusOf refusal) 0 0)) ⌝ }
+{
+    let sent = refusal::status(refusal);
+    wire_lay_header::lay_header(reply, msg, sent);
+    Answered { refusal, count: 16 }
+}

@@ -1,0 +1,89 @@
+-- Block, cell, status and length, one after the other, each from the field of the column's property. Assumes nothing.
+use borrow.Author.Needs.{needs}
+use Rattle.page_column.proofs.lay_column.Statement.{statement}
+use Rattle.page_column.proofs.lay_column.Tie as tie
+use mathlib.Core.Path.{_∙_, sym, ap}
+use Prim.Native.Nat.{ℕ, _-_}
+use native.Mathlib.Omega.{arith}
+use lib.ListN.{length}
+use Rattle.page.proofs.Fields.{field-small, stand-small, still-in}
+use Rattle.page.proofs.Column.{found-stands, found-room, column-laid}
+
+field-requires : tie.Need-field-requires
+field-requires c κs = search needs
+
+room-of-requires : tie.Need-room-of-requires
+room-of-requires c κs = let a = c .before .before .before .args in
+    rw (c .field .ensures) (field-small (a .column .property) (a .fields) (stand-small (a .s .now) (a .fields) (c .before .before .before .pre .stands)))
+
+sub-place : tie.Need-sub-place
+sub-place c = let a = c .before .before .before .before .args in let p = c .before .before .before .before .pre in
+    omega (arith, c .room-of .ensures (a .s .now) (found-stands (a .s .now) (a .fields) (a .column) (c .before .field .result) (p .stands) (c .before .field .ensures)), found-room (a .s .now) (a .fields) (a .column) (c .before .field .result) (p .stands) (c .before .field .ensures), p .room)
+
+lay-block-requires : tie.Need-lay-block-requires
+lay-block-requires c κs = let a = c .before .before .before .before .before .args in let p = c .before .before .before .before .before .pre in
+    let stand = found-stands (a .s .now) (a .fields) (a .column) (c .before .before .field .result) (p .stands) (c .before .before .field .ensures) in
+    (stand, omega (arith, c .before .room-of .ensures (a .s .now) stand, found-room (a .s .now) (a .fields) (a .column) (c .before .before .field .result) (p .stands) (c .before .before .field .ensures), p .room, p .ends))
+
+add-offset : tie.Need-add-offset
+add-offset c = let a = c .before .before .before .before .before .before .before .before .args in omega (arith, c .before .before .before .before .before .before .before .before .pre .offset)
+
+kind-requires : tie.Need-kind-requires
+kind-requires c κs = search needs
+
+content-requires : tie.Need-content-requires
+content-requires c κs = search needs
+
+lay-value-requires : tie.Need-lay-value-requires
+lay-value-requires c κs = let a = c .before .before .before .before .before .before .before .before .before .before .before .args in
+    still-in (length (a .reply .now)) _ (a .row) (a .column) (sym (c .before .before .before .before .before .lay-block .kept .0)) (c .before .before .before .before .before .before .before .before .before .before .before .pre .column)
+
+status-requires : tie.Need-status-requires
+status-requires c κs = search needs
+
+lay-status-requires : tie.Need-lay-status-requires
+lay-status-requires c κs = let a = c .before .before .before .before .before .before .before .before .before .before .before .before .before .before .before .before .args in
+    still-in (length (a .reply .now)) _ (a .row) (a .column) (sym (c .before .before .before .before .lay-value .kept .0 ∙ c .before .before .before .before .before .before .before .before .before .before .lay-block .kept .0)) (c .before .before .before .before .before .before .before .before .before .before .before .before .before .before .before .before .pre .column)
+
+length-sent-requires : tie.Need-length-sent-requires
+length-sent-requires c κs = let a = c .before .before .before .before .before .before .before .before .before .before .before .before .before .before .before .before .before .before .before .before .args in
+    rw (c .before .before .before .before .before .before .before .before .before .before .before .before .before .before .before .before .before .field .ensures) (field-small (a .column .property) (a .fields) (stand-small (a .s .now) (a .fields) (c .before .before .before .before .before .before .before .before .before .before .before .before .before .before .before .before .before .before .before .before .pre .stands)))
+
+lay-length-requires : tie.Need-lay-length-requires
+lay-length-requires c κs = let a = c .before .before .before .before .before .before .before .before .before .before .before .before .before .before .before .before .before .before .before .before .before .args in
+    still-in (length (a .reply .now)) _ (a .row) (a .column) (sym (c .before .before .before .before .lay-status .kept .0 ∙ c .before .before .before .before .before .before .before .before .before .lay-value .kept .0 ∙ c .before .before .before .before .before .before .before .before .before .before .before .before .before .before .before .lay-block .kept .0)) (c .before .before .before .before .before .before .before .before .before .before .before .before .before .before .before .before .before .before .before .before .before .pre .column)
+
+same-length : tie.Need-same-length
+same-length c = search needs
+
+returns : tie.Need-returns
+returns c = let a = c .before .before .before .before .before .before .before .before .before .before .before .before .before .before .before .before .before .before .before .before .before .before .before .before .args in let s = a .s .now in let p = c .before .before .before .before .before .before .before .before .before .before .before .before .before .before .before .before .before .before .before .before .before .before .before .before .pre in let found = c .before .before .before .before .before .before .before .before .before .before .before .before .before .before .before .before .before .before .before .before .before .field .result in
+    let stand = found-stands s (a .fields) (a .column) found (p .stands) (c .before .before .before .before .before .before .before .before .before .before .before .before .before .before .before .before .before .before .before .before .before .field .ensures) in
+    let room = c .before .before .before .before .before .before .before .before .before .before .before .before .before .before .before .before .before .before .before .before .room-of .ensures s stand ∙ found-room s (a .fields) (a .column) found (p .stands) (c .before .before .before .before .before .before .before .before .before .before .before .before .before .before .before .before .before .before .before .before .before .field .ensures) in (
+      ap (λ (n : ℕ). a .top - n) room,
+      column-laid s (a .fields) (a .column) found (p .stands) (c .before .before .before .before .before .before .before .before .before .before .before .before .before .before .before .before .before .before .before .before .before .field .ensures) (a .reply .now)
+          (c .before .before .before .before .before .before .before .before .before .before .before .before .before .before .before .before .before .before .lay-block .last .0) (c .before .before .before .before .before .before .before .before .before .before .before .before .lay-value .last .0) (c .before .before .before .before .before .before .before .lay-status .last .0) (c .before .before .lay-length .last .0)
+          (a .base) (a .row) (a .top - c .before .before .before .before .before .before .before .before .before .before .before .before .before .before .before .before .before .before .before .before .room-of .result) (c .before .before .before .before .before .before .before .before .before .before .before .before .before .before .kind .result) (c .before .before .before .before .before .before .before .before .before .before .before .before .before .content .result) (c .before .before .before .before .before .before .before .before .status .result) (c .before .before .before .length-sent .result)
+          (omega (arith, p .offset))
+          (c .before .before .before .before .before .before .before .before .before .before .before .before .before .before .before .before .before .before .lay-block .ensures) (c .before .before .before .before .before .before .before .before .before .before .before .before .before .before .kind .ensures s) (c .before .before .before .before .before .before .before .before .before .before .before .before .before .content .ensures s) (c .before .before .before .before .before .before .before .before .before .before .before .before .lay-value .ensures)
+          (c .before .before .before .before .before .before .before .before .status .ensures s) (c .before .before .before .before .before .before .before .lay-status .ensures) (c .before .before .before .length-sent .ensures s stand) (c .before .before .lay-length .ensures),
+    )
+
+pub lay-column-spec : {M : Type 1} → statement M
+lay-column-spec =
+    tie.close
+    (tie.spec
+    field-requires
+    room-of-requires
+    sub-place
+    lay-block-requires
+    add-offset
+    kind-requires
+    content-requires
+    lay-value-requires
+    status-requires
+    lay-status-requires
+    length-sent-requires
+    lay-length-requires
+    same-length
+    returns)

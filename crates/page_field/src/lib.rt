@@ -1,0 +1,96 @@
+// What is sent of a field: its status, its length, its cell, and the room of its block.
+ghost use mathlib.Core.Path.{_≡_};
+ghost use Rattle.catalogue.specs.Places.{rowOf};
+ghost use Rattle.wire_word.specs.Below.{pick};
+ghost use Rattle.bindings_column.specs.Fit.{isUsed};
+ghost use Rattle.page.specs.Field.{fieldSeen};
+ghost use Rattle.page.specs.Cell.{statusOf, lengthOf, kindOf, contentOf, blockSize, blockRoom};
+ghost use Rattle.page.specs.Stands.{InAny, FieldStands, FieldsStand, FieldSmall, FieldsSmall};
+use bindings_column::Column;
+use catalogue::Fields;
+use page::FieldAt;
+
+const TEXT_TYPE: u64 = 0x001F;
+
+// The status byte: 0 present, 2 absent.
+pub fn status(field: FieldAt) -> u8
+    ensures { λ r. ⌜ InAny (λ s. r ≡ statusOf (fieldSeen s field)) ⌝ }
+{
+    match field {
+        FieldAt::NumberIs(_) => 0,
+        FieldAt::TextIs(_) => 0,
+        FieldAt::Absent => 2,
+    }
+}
+
+// The bytes of a field's block.
+fn block_size(field: FieldAt) -> usize
+    requires { ⌜ FieldSmall field ⌝ }
+    ensures { λ r. ⌜ InAny (λ s. FieldStands s field → r ≡ blockSize (fieldSeen s field)) ⌝ }
+{
+    match field {
+        FieldAt::NumberIs(_) => 0,
+        FieldAt::TextIs(text) => {
+            let size = text.size;
+            2 * size
+        }
+        FieldAt::Absent => 0,
+    }
+}
+
+// The length that is sent.
+pub fn length_sent(field: FieldAt, property: u32) -> u64
+    requires { ⌜ FieldSmall field ⌝ }
+    ensures { λ r. ⌜ InAny (λ s. FieldStands s field → r ≡ lengthOf property (fieldSeen s field)) ⌝ }
+{
+    match field {
+        FieldAt::NumberIs(_) => bindings_column::number_size(property) as u64,
+        FieldAt::TextIs(text) => {
+            let size = text.size;
+            2 * (size as u64)
+        }
+        FieldAt::Absent => 0,
+    }
+}
+
+// The type of a field's cell of sixteen bytes.
+pub fn kind(field: FieldAt, property: u32) -> u64
+    ensures { λ r. ⌜ InAny (λ s. r ≡ kindOf property (fieldSeen s field)) ⌝ }
+{
+    match field {
+        FieldAt::NumberIs(_) => bindings_column::number_type(property) as u64,
+        FieldAt::TextIs(_) => TEXT_TYPE,
+        FieldAt::Absent => 0,
+    }
+}
+
+// The number of a field's cell, where its block has the offset.
+pub fn content(field: FieldAt, offset: u64) -> u64
+    ensures { λ r. ⌜ InAny (λ s. r ≡ contentOf offset (fieldSeen s field)) ⌝ }
+{
+    match field {
+        FieldAt::NumberIs(value) => value,
+        FieldAt::TextIs(_) => offset,
+        FieldAt::Absent => 0,
+    }
+}
+
+// The bytes of a field's block where its value is used.
+pub fn room_of(used: u32, field: FieldAt) -> usize
+    requires { ⌜ FieldSmall field ⌝ }
+    ensures { λ r. ⌜ InAny (λ s. FieldStands s field → r ≡ pick (isUsed used) (blockSize (fieldSeen s field)) 0) ⌝ }
+{
+    if used != 1 {
+        return 0;
+    }
+    block_size(field)
+}
+
+// The bytes of a column's block in a row.
+pub fn block_room(column: Column, fields: Fields) -> usize
+    requires { ⌜ FieldsSmall fields ⌝ }
+    ensures { λ r. ⌜ InAny (λ s. FieldsStand s fields → r ≡ blockRoom column (rowOf s fields)) ⌝ }
+{
+    let found = page_lookup::field(fields, column.property);
+    room_of(column.value.used, found)
+}

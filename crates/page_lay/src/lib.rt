@@ -1,0 +1,92 @@
+// The parts of a column written into a reply: its cell, status byte, length and block.
+ghost use mathlib.Core.Path.{_≡_};
+ghost use mathlib.Core.List.{[], _∷_, _++_};
+ghost use Prim.Native.Nat.{_+_, _*_, _≤_, _<_};
+ghost use lib.ListN.{length};
+ghost use Rattle.wire_word.specs.Below.{pick};
+ghost use Rattle.wire_word.specs.Word.{le, halves};
+ghost use Rattle.catalogue.specs.Places.{unitsPart};
+ghost use Rattle.bindings_column.specs.Property.{lengthSize};
+ghost use Rattle.bindings_column.specs.Fit.{isUsed};
+ghost use Rattle.wire_lay.specs.Laid.{lay, lays};
+ghost use Rattle.page.specs.Field.{fieldSeen};
+ghost use Rattle.page.specs.Cell.{cellBytes, blockOf, blockSize, blockSpan, laidIf};
+ghost use Rattle.page.specs.Stands.{TextStands, FieldStands, ColumnIn};
+use bindings_column::Column;
+use catalogue::Text;
+use page::FieldAt;
+
+// A text's block: its units and one zero unit.
+fn lay_text(reply: &mut [u8], s: &[u8], text: Text, place: usize)
+    requires { ⌜ TextStands (now s) text × (0 < text .size) × (place + 2 * text .size ≤ length (now reply)) ⌝ }
+    ensures { λ _. ⌜ now (reply .exit) ≡ lay (now (reply .entry)) place (blockOf (halves (unitsPart (now (s .entry)) text))) ⌝ }
+{
+    let units = catalogue::units(s, text);
+    wire_lay::lay_bytes(reply, place, units);
+    let end = place + units.len();
+    wire_lay_word::lay_half(reply, end, 0);
+}
+
+// A field's block, where the value is used and there is one.
+pub fn lay_block(reply: &mut [u8], s: &[u8], used: u32, field: FieldAt, place: usize)
+    requires { ⌜ FieldStands (now s) field × (place + pick (isUsed used) (blockSize (fieldSeen (now s) field)) 0 ≤ length (now reply)) ⌝ }
+    ensures { λ _. ⌜ now (reply .exit) ≡ lays (now (reply .entry)) (pick (isUsed used) (blockSpan place (fieldSeen (now (s .entry)) field)) []) ⌝ }
+{
+    if used != 1 {
+        return;
+    }
+    match field {
+        FieldAt::NumberIs(_) => {}
+        FieldAt::TextIs(text) => lay_text(reply, s, text, place),
+        FieldAt::Absent => {}
+    }
+}
+
+// A cell of sixteen bytes: the type, six zeros, and the number in the first bytes of the other eight.
+fn lay_variant(reply: &mut [u8], at: usize, kind: u64, number: u64)
+    requires { ⌜ at + 16 ≤ length (now reply) ⌝ }
+    ensures { λ _. ⌜ now (reply .exit) ≡ lay (now (reply .entry)) at (le 8 kind ++ le 8 number) ⌝ }
+{
+    wire_lay_word::lay_long(reply, at, kind);
+    wire_lay_word::lay_long(reply, at + 8, number);
+}
+
+// A column's cell, where its value is used.
+pub fn lay_value(reply: &mut [u8], column: Column, row: usize, kind: u64, number: u64)
+    requires { ⌜ ColumnIn (length (now reply)) row column ⌝ }
+    ensures { λ _. ⌜ now (reply .exit) ≡ lays (now (reply .entry)) (laidIf (column .value .used) (row + column .value .offset) (cellBytes (column .property) (column .vtype) kind number)) ⌝ }
+{
+    if column.value.used != 1 {
+        return;
+    }
+    let at = row + (column.value.offset as usize);
+    if column.vtype == bindings_column::VARIANT_TYPE {
+        lay_variant(reply, at, kind, number);
+        return;
+    }
+    wire_lay_word::lay_word(reply, at, number);
+}
+
+// A column's status byte, where it is used.
+pub fn lay_status(reply: &mut [u8], column: Column, row: usize, status: u8)
+    requires { ⌜ ColumnIn (length (now reply)) row column ⌝ }
+    ensures { λ _. ⌜ now (reply .exit) ≡ lays (now (reply .entry)) (laidIf (column .status .used) (row + column .status .offset) (status ∷ [])) ⌝ }
+{
+    if column.status.used != 1 {
+        return;
+    }
+    let at = row + (column.status.offset as usize);
+    wire_lay::lay_byte(reply, at, status);
+}
+
+// A column's length, where it is used.
+pub fn lay_length(reply: &mut [u8], column: Column, row: usize, value: u64)
+    requires { ⌜ ColumnIn (length (now reply)) row column ⌝ }
+    ensures { λ _. ⌜ now (reply .exit) ≡ lays (now (reply .entry)) (laidIf (column .length .used) (row + column .length .offset) (le lengthSize value)) ⌝ }
+{
+    if column.length.used != 1 {
+        return;
+    }
+    let at = row + (column.length.offset as usize);
+    wire_lay_word::lay_word(reply, at, value);
+}

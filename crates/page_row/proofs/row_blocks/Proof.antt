@@ -1,0 +1,72 @@
+-- What the columns passed take and what the others will is all. Assumes nothing.
+use Rattle.page_row.proofs.row_blocks.Statement.{statement}
+use Rattle.page_row.proofs.row_blocks.Tie as tie
+use borrow.Author.Needs.{needs}
+use mathlib.Core.Path.{_≡_, ap, _∙_}
+use Prim.Native.Nat.{_+_, _*_, _≤_}
+use native.Mathlib.Omega.{arith}
+use Rattle.catalogue.specs.Places.{rowOf}
+use Rattle.bindings_column.specs.Column.{columnsFrom, columnsOf}
+use Rattle.bindings_column.specs.declared.Column.{Column}
+use Rattle.page.specs.Cell.{blockRoom}
+use Rattle.page.proofs.Fields.{stand-small}
+use Rattle.page_row.specs.Rows.{blocks}
+use Rattle.page_row.specs.Ready.{blockMost}
+use Rattle.page_row.proofs.Found.{room-small, fields-stand, fields-row}
+use Rattle.page_row.proofs.Steps.{blocks-more, blocks-none}
+
+abbrev Inv-loop : tie.InvT-loop
+Inv-loop s at fields words bound total₀ k₀ left₀ total k left = (k + left ≡ bound) × (total ≤ blockMost * k) × (blocks (columnsOf bound words) (rowOf s fields) ≡ total + blocks (columnsFrom left k words) (rowOf s fields))
+
+abbrev μ-loop : tie.MeasureT-loop
+μ-loop s at fields words bound total₀ k₀ left₀ total k left = left
+
+loop-holds : tie.Need-loop-holds Inv-loop μ-loop
+loop-holds c = (omega arith, omega arith, omega arith)
+
+column-at-requires : tie.Need-column-at-requires Inv-loop μ-loop
+column-at-requires c κs = let p = c .before .before .before .before .pre .0 in (p .long, omega (arith, p .few))
+
+block-room-requires : tie.Need-block-room-requires Inv-loop μ-loop
+block-room-requires c κs = let a = c .before .before .before .before .before .args in
+    stand-small (a .s .now) ((a .fields)) (fields-stand (a .s .now) (a .at) ((a .fields)) (c .before .before .before .before .before .pre .1))
+
+add-total : tie.Need-add-total Inv-loop μ-loop
+add-total c = let a = c .before .before .before .before .before .before .args in let f = a .fields in
+    let st = fields-stand (a .s .now) (a .at) f (c .before .before .before .before .before .before .pre .1) in
+    omega (arith, c .block-room .ensures (a .s .now) st, room-small (a .s .now) f (c .before .column-at .result) st, c .before .before .before .before .before .before .pre .0 .few)
+
+add-k : tie.Need-add-k Inv-loop μ-loop
+add-k c = search needs
+
+sub-left : tie.Need-sub-left Inv-loop μ-loop
+sub-left c = search needs
+
+loop-less : tie.Need-loop-less Inv-loop μ-loop
+loop-less c = search needs
+
+loop-again : tie.Need-loop-again Inv-loop μ-loop
+loop-again c = let a = c .before .before .before .before .before .before .args in let f = a .fields in let l = c .before .before .before .loop in let r = rowOf (a .s .now) f in
+    let st = fields-stand (a .s .now) (a .at) f (c .before .before .before .before .before .before .pre .1) in
+    let room = c .block-room .ensures (a .s .now) st ∙ ap (λ (d : Column). blockRoom d r) (c .before .column-at .ensures) in
+    (omega arith, omega (arith, c .block-room .ensures (a .s .now) st, room-small (a .s .now) f (c .before .column-at .result) st), omega (arith, l .inv .2, room, blocks-more (l .left) (l .k) (a .words .now) r (c .before .before .loop-test .taken)))
+
+returns : tie.Need-returns Inv-loop μ-loop
+returns c = let a = c .before .before .before .before .args in let f = a .fields in let l = c .before .loop in
+    (rw (← (fields-row (a .s .now) (a .at) f (c .before .before .before .before .pre .1))) (omega (arith, l .inv .2, blocks-none (l .left) (l .k) (a .words .now) (rowOf (a .s .now) f) (omega arith))), omega (arith, c .before .before .before .before .pre .0 .few))
+
+pub row-blocks-spec : {M : Type 1} → statement M
+row-blocks-spec =
+    tie.close
+    (tie.spec
+    Inv-loop
+    μ-loop
+    loop-holds
+    column-at-requires
+    block-room-requires
+    add-total
+    add-k
+    sub-left
+    loop-less
+    loop-again
+    returns)

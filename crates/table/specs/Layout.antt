@@ -1,0 +1,79 @@
+-- The places of the session table's words (docs/TABLE.md), each named once.
+use mathlib.Core.List.{List, _++_}
+use Prim.Native.Nat.{ℕ, _*_}
+use lib.Dec.{eqb}
+use lib.ListN.{take, drop}
+use Rattle.wire_word.specs.Below.{pick}
+
+-- "8 seats (0 to 7)": a block for each, one after the other
+abbrev pub seats : ℕ
+seats = 8
+
+abbrev pub seatSize : ℕ
+seatSize = 2150
+
+abbrev pub tableSize : ℕ
+tableSize = 17200
+
+abbrev pub seatAt : ℕ → ℕ
+seatAt seat = seatSize * seat
+
+-- in a seat's block: connected, client version, and the blocks of its "2 cursors .., handles 1 and 2"
+abbrev pub connectedAt : ℕ
+connectedAt = 0
+
+abbrev pub versionAt : ℕ
+versionAt = 1
+
+abbrev pub cursorSize : ℕ
+cursorSize = 1074
+
+abbrev pub firstAt : ℕ
+firstAt = 2
+
+abbrev pub secondAt : ℕ
+secondAt = 1076
+
+-- a handle's cursor: 1, else 2 (a handle is judged before)
+abbrev pub cursorPlace : ℕ → ℕ
+cursorPlace handle = pick (eqb handle 1) firstAt secondAt
+
+-- in a cursor's block: open, position, count of selected rows, count of bound columns, row width, the records of the columns,
+-- the row numbers
+abbrev pub openAt : ℕ
+openAt = 0
+
+abbrev pub positionAt : ℕ
+positionAt = 1
+
+abbrev pub countAt : ℕ
+countAt = 2
+
+abbrev pub columnsAt : ℕ
+columnsAt = 3
+
+abbrev pub widthAt : ℕ
+widthAt = 4
+
+abbrev pub recordsAt : ℕ
+recordsAt = 5
+
+abbrev pub recordsSize : ℕ
+recordsSize = 45
+
+abbrev pub rowsAt : ℕ
+rowsAt = 50
+
+abbrev pub rowsSize : ℕ
+rowsSize = 1024
+
+-- the n words from a place on, and the list with other words in that place
+abbrev pub part : List ℕ → ℕ → ℕ → List ℕ
+part t at n = take n (drop at t)
+
+abbrev pub put : List ℕ → ℕ → ℕ → List ℕ → List ℕ
+put t at n block = take at t ++ (block ++ drop n (drop at t))
+
+-- a seat's block in the table
+abbrev pub blockOf : List ℕ → ℕ → List ℕ
+blockOf t seat = part t (seatAt seat) seatSize

@@ -1,0 +1,106 @@
+// The session table: the judgement of the words of a cursor's bindings, and of words not in use.
+ghost use mathlib.Core.Path.{_≡_};
+ghost use Prim.Native.Nat.{_^_, _≤_, _<_};
+ghost use lib.ListN.{length};
+ghost use Rattle.bindings_column.specs.Column.{columnAt, columnsOf, columnsMost};
+ghost use Rattle.bindings_column.specs.Each.{every};
+ghost use Rattle.table.specs.Layout.{cursorSize, recordsSize};
+ghost use Rattle.table.specs.Well.{allZero, flagged, tidy, boundWell, bindingsWell};
+
+// Every word is zero. There is no early return, so that many words are looked at in one step.
+pub fn all_zero(words: &[u32]) -> bool
+    ensures { λ r. ⌜ r ≡ allZero (now (words .entry)) ⌝ }
+{
+    let mut clear = true;
+    let mut i = 0;
+    while i < words.len() {
+        if words[i] != 0 {
+            clear = false;
+        }
+        i += 1;
+    }
+    clear
+}
+
+fn wide(word: u32) -> u64
+    ensures { λ r. ⌜ (r ≡ word) × (r < 2 ^ 32) ⌝ }
+{
+    word as u64
+}
+
+// A flag of a column, and what an unset one leaves zero.
+fn flagged(used: u32, rest: u64) -> bool
+    ensures { λ r. ⌜ r ≡ flagged used rest ⌝ }
+{
+    if used == 0 {
+        return rest == 0;
+    }
+    used == 1
+}
+
+// The flags of the k-th column.
+fn tidy(records: &[u32], k: usize) -> bool
+    requires { ⌜ (length (now records) ≡ recordsSize) × (k < columnsMost) ⌝ }
+    ensures { λ r. ⌜ r ≡ tidy (columnAt (now (records .entry)) k) ⌝ }
+{
+    let at = bindings_column::COLUMN_WORDS * k;
+    let value = wide(records[at + 3]) + wide(records[at + 4]);
+    if !flagged(records[at + 2], value) {
+        return false;
+    }
+    let status = wide(records[at + 6]);
+    if !flagged(records[at + 5], status) {
+        return false;
+    }
+    let length = wide(records[at + 8]);
+    flagged(records[at + 7], length)
+}
+
+// The flags of each column.
+fn all_tidy(records: &[u32], count: usize) -> bool
+    requires { ⌜ (length (now records) ≡ recordsSize) × (count ≤ columnsMost) ⌝ }
+    ensures { λ r. ⌜ r ≡ every tidy (columnsOf count (now (records .entry))) ⌝ }
+{
+    let mut k = 0;
+    let mut left = count;
+    while 0 < left {
+        if !tidy(records, k) {
+            return false;
+        }
+        k += 1;
+        left -= 1;
+    }
+    true
+}
+
+// The bindings of a cursor that has some.
+fn bound_well(records: &[u32], count: u32, width: u32) -> bool
+    requires { ⌜ length (now records) ≡ recordsSize ⌝ }
+    ensures { λ r. ⌜ r ≡ boundWell count width (now (records .entry)) ⌝ }
+{
+    if !bindings_fit::fit(records, count, width) {
+        return false;
+    }
+    let n = count as usize;
+    if !all_tidy(records, n) {
+        return false;
+    }
+    let unused = bindings_column::COLUMN_WORDS * n;
+    all_zero(&records[unused..])
+}
+
+// The bindings of a cursor.
+pub fn bindings_well(block: &[u32]) -> bool
+    requires { ⌜ length (now block) ≡ cursorSize ⌝ }
+    ensures { λ r. ⌜ r ≡ bindingsWell (now (block .entry)) ⌝ }
+{
+    let count = block[table::COLUMNS];
+    if count == 0 {
+        return all_zero(&block[table::WIDTH..table::ROWS]);
+    }
+    bound_well(
+        &block[table::RECORDS..table::ROWS],
+        count,
+        block[table::WIDTH],
+    )
+}

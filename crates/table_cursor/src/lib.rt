@@ -1,0 +1,71 @@
+// The session table: the judgement of a cursor's block.
+ghost use mathlib.Core.Path.{_≡_};
+ghost use Prim.Native.Nat.{_≤_};
+ghost use lib.ListN.{length};
+ghost use Rattle.table.specs.Layout.{cursorSize};
+ghost use Rattle.table.specs.Well.{rising, selectionWell, openWell, cursorWell};
+
+const ROWS_SIZE: u32 = 1024;
+
+// Each number is below the next.
+fn rising(rows: &[u32]) -> bool
+    ensures { λ r. ⌜ r ≡ rising (now (rows .entry)) ⌝ }
+{
+    if rows.len() == 0 {
+        return true;
+    }
+    let last = rows.len() - 1;
+    let mut rises = true;
+    let mut i = 0;
+    while i < last {
+        if rows[i + 1] <= rows[i] {
+            rises = false;
+        }
+        i += 1;
+    }
+    rises
+}
+
+// The selection of a cursor: so many rising row numbers, and zeros after them.
+fn selection_well(rows: &[u32], count: usize) -> bool
+    requires { ⌜ count ≤ length (now rows) ⌝ }
+    ensures { λ r. ⌜ r ≡ selectionWell count (now (rows .entry)) ⌝ }
+{
+    if !rising(&rows[0..count]) {
+        return false;
+    }
+    table_bindings::all_zero(&rows[count..])
+}
+
+// The block of an open cursor.
+fn open_well(block: &[u32]) -> bool
+    requires { ⌜ length (now block) ≡ cursorSize ⌝ }
+    ensures { λ r. ⌜ r ≡ openWell (now (block .entry)) ⌝ }
+{
+    let count = block[table::COUNT];
+    if count < block[table::POSITION] {
+        return false;
+    }
+    if ROWS_SIZE < count {
+        return false;
+    }
+    if !table_bindings::bindings_well(block) {
+        return false;
+    }
+    selection_well(&block[table::ROWS..], count as usize)
+}
+
+// The block of a cursor.
+pub fn cursor_well(block: &[u32]) -> bool
+    requires { ⌜ length (now block) ≡ cursorSize ⌝ }
+    ensures { λ r. ⌜ r ≡ cursorWell (now (block .entry)) ⌝ }
+{
+    let open = block[table::OPEN];
+    if open == 0 {
+        return table_bindings::all_zero(block);
+    }
+    if open != 1 {
+        return false;
+    }
+    open_well(block)
+}

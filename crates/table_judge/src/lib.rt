@@ -1,0 +1,93 @@
+// The session table: the judgement of the whole table.
+ghost use mathlib.Core.Path.{_≡_};
+ghost use mathlib.Core.Bool.{true};
+ghost use lib.ListN.{length};
+ghost use Rattle.table.specs.Layout.{seatSize, cursorSize};
+ghost use Rattle.table.specs.Seat.{cursorOf, seatOf};
+ghost use Rattle.table.specs.Well.{cursorWell, seatWell, tableWell, cursorBelow, seatBelow, tableBelow};
+
+pub const TABLE_SIZE: usize = 17200;
+
+// The block of a seat.
+fn seat_well(block: &[u32]) -> bool
+    requires { ⌜ length (now block) ≡ seatSize ⌝ }
+    ensures { λ r. ⌜ r ≡ seatWell (now (block .entry)) ⌝ }
+{
+    let connected = block[table::CONNECTED];
+    if connected == 0 {
+        return table_bindings::all_zero(block);
+    }
+    if connected != 1 {
+        return false;
+    }
+    if !table_cursor::cursor_well(&block[table::FIRST..table::SECOND]) {
+        return false;
+    }
+    table_cursor::cursor_well(&block[table::SECOND..table::SEAT_SIZE])
+}
+
+// The whole table: refusal 2 is given exactly where it is not well.
+pub fn well(table: &[u32]) -> bool
+    ensures { λ r. ⌜ r ≡ tableWell (now (table .entry)) ⌝ }
+{
+    if table.len() != TABLE_SIZE {
+        return false;
+    }
+    let mut seat: usize = 0;
+    while seat < 8 {
+        let at = table::SEAT_SIZE * seat;
+        let end = at + table::SEAT_SIZE;
+        if !seat_well(&table[at..end]) {
+            return false;
+        }
+        seat += 1;
+    }
+    true
+}
+
+// The row numbers of a cursor are below the row count. They rise, so the last one decides.
+fn cursor_below(block: &[u32], rows: u32) -> bool
+    requires { ⌜ (length (now block) ≡ cursorSize) × (cursorWell (now block) ≡ true) ⌝ }
+    ensures { λ r. ⌜ r ≡ cursorBelow rows (cursorOf (now (block .entry))) ⌝ }
+{
+    if block[table::OPEN] == 0 {
+        return true;
+    }
+    let count = block[table::COUNT] as usize;
+    if count == 0 {
+        return true;
+    }
+    let last = table::ROWS + count - 1;
+    block[last] < rows
+}
+
+// The row numbers of both cursors of a seat.
+fn seat_below(block: &[u32], rows: u32) -> bool
+    requires { ⌜ (length (now block) ≡ seatSize) × (seatWell (now block) ≡ true) ⌝ }
+    ensures { λ r. ⌜ r ≡ seatBelow rows (seatOf (now (block .entry))) ⌝ }
+{
+    if block[table::CONNECTED] == 0 {
+        return true;
+    }
+    if !cursor_below(&block[table::FIRST..table::SECOND], rows) {
+        return false;
+    }
+    cursor_below(&block[table::SECOND..table::SEAT_SIZE], rows)
+}
+
+// The row numbers of every open cursor: the second half of refusal 3 is given exactly where they are not all below the count.
+pub fn below(table: &[u32], rows: u32) -> bool
+    requires { ⌜ tableWell (now table) ≡ true ⌝ }
+    ensures { λ r. ⌜ r ≡ tableBelow rows (now (table .entry)) ⌝ }
+{
+    let mut seat: usize = 0;
+    while seat < 8 {
+        let at = table::SEAT_SIZE * seat;
+        let end = at + table::SEAT_SIZE;
+        if !seat_below(&table[at..end], rows) {
+            return false;
+        }
+        seat += 1;
+    }
+    true
+}

@@ -1,0 +1,22 @@
+-- `table_write::connect` meets its contract: two words of a block of zeros are set. Assumes nothing.
+use borrow.Author.Needs.{needs}
+use Rattle.table_write.proofs.connect.Statement.{statement}
+use Rattle.table_write.proofs.connect.Tie as tie
+use native.Mathlib.Omega.{arith}
+use lib.ListN.{length-set}
+use Rattle.table.proofs.Writes.{connect-block, block-fits}
+
+slice-write-block : tie.Need-slice-write-block
+slice-write-block c = omega (arith, block-fits (c .args .block .now) (c .pre))
+
+slice-write-block-2 : tie.Need-slice-write-block-2
+slice-write-block-2 c = simp length-set (omega (arith, block-fits (c .args .block .now) (c .pre)))
+
+same-length : tie.Need-same-length
+same-length c = search needs
+
+returns : tie.Need-returns
+returns c = connect-block (c .args .block .now) (c .args .version) (c .pre)
+
+pub connect-spec : {M : Type 1} → statement M
+connect-spec = tie.close (tie.spec slice-write-block slice-write-block-2 same-length returns)

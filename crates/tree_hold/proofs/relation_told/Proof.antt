@@ -1,0 +1,57 @@
+-- Each word is read where the leaf has it. Assumes nothing.
+use borrow.Author.Needs.{needs}
+use Rattle.tree_hold.proofs.relation_told.Statement.{statement}
+use Rattle.tree_hold.proofs.relation_told.Tie as tie
+
+add-word : tie.Need-add-word
+add-word c = search needs
+
+word-requires : tie.Need-word-requires
+word-requires c κs = search needs
+
+add-word-2 : tie.Need-add-word-2
+add-word-2 c = search needs
+
+word-requires-2 : tie.Need-word-requires-2
+word-requires-2 c κs = search needs
+
+add-word-3 : tie.Need-add-word-3
+add-word-3 c = search needs
+
+word-requires-3 : tie.Need-word-requires-3
+word-requires-3 c κs = search needs
+
+cast-value : tie.Need-cast-value
+cast-value c = search needs
+
+number-of-requires : tie.Need-number-of-requires
+number-of-requires c κs = search needs
+
+relation-holds-requires : tie.Need-relation-holds-requires
+relation-holds-requires c κs = search needs
+
+add-told : tie.Need-add-told
+add-told c = search needs
+
+told-requires : tie.Need-told-requires
+told-requires c κs = search needs
+
+returns : tie.Need-returns
+returns c = rw (← c .before .before .before .before .before .word .ensures, ← c .before .before .before .before .word2 .ensures, ← c .before .before .before .word3 .ensures, ← c .before .before .number-of .ensures, ← c .before .relation-holds .ensures) (c .told .ensures)
+
+pub relation-told-spec : {M : Type 1} → statement M
+relation-told-spec =
+    tie.close
+    (tie.spec
+    add-word
+    word-requires
+    add-word-2
+    word-requires-2
+    add-word-3
+    word-requires-3
+    cast-value
+    number-of-requires
+    relation-holds-requires
+    add-told
+    told-requires
+    returns)

@@ -1,0 +1,62 @@
+// What a leaf says of a row: how the row's number relates to the leaf's, and whether the row's text holds the leaf's phrase.
+ghost use mathlib.Core.Path.{_≡_};
+ghost use Rattle.wire_word.specs.Word.{halves};
+ghost use Rattle.catalogue.specs.Places.{textOf};
+ghost use Rattle.tree_part.specs.Property.{ofNumbers, ofTexts};
+ghost use Rattle.tree_part.specs.Holds.{relationHolds, phraseHolds};
+ghost use Rattle.tree_match.specs.Inside.{TextInside};
+use catalogue::Fields;
+use catalogue::Text;
+
+// The properties that the code tells apart.
+const KEY: u32 = 2;
+
+const LANGUAGE: u32 = 3;
+
+const LABEL: u32 = 5;
+
+// Whether the row's value has the relation to the tree's.
+pub fn relation_holds(relop: u32, mine: u64, yours: u64) -> bool
+    ensures { λ r. ⌜ r ≡ relationHolds relop mine yours ⌝ }
+{
+    match relop {
+        0 => mine < yours,
+        1 => mine <= yours,
+        2 => yours < mine,
+        3 => yours <= mine,
+        4 => mine == yours,
+        _ => mine != yours,
+    }
+}
+
+// The row's number that a property names.
+pub fn number_of(property: u32, row: Fields) -> u64
+    ensures { λ r. ⌜ r ≡ ofNumbers property (row .key) (row .language) (row .default) ⌝ }
+{
+    match property {
+        KEY => row.key,
+        LANGUAGE => row.language,
+        _ => row.default,
+    }
+}
+
+// The row's text that a property names.
+pub fn text_of(property: u32, row: Fields) -> Text
+    ensures { λ r. ⌜ r ≡ ofTexts property (row .label) (row .note) ⌝ }
+{
+    if property == LABEL {
+        return row.label;
+    }
+    row.note
+}
+
+// Whether a phrase occurs in a text.
+pub fn phrase_holds(phrase: &[u8], method: u32, catalogue: &[u8], text: Text) -> bool
+    requires { ⌜ TextInside (now catalogue) text ⌝ }
+    ensures { λ r. ⌜ r ≡ phraseHolds method (halves (now (phrase .entry))) (textOf (now (catalogue .entry)) text) ⌝ }
+{
+    if text.size == 0 {
+        return false;
+    }
+    tree_phrase::occurs(catalogue::units(catalogue, text), phrase, method)
+}

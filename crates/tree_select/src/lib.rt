@@ -1,0 +1,51 @@
+// The rows that a tree selects.
+ghost use mathlib.Core.Path.{_≡_};
+ghost use mathlib.Core.Bool.{true};
+ghost use Prim.Native.Nat.{_≤_};
+ghost use lib.ListN.{length};
+ghost use Rattle.catalogue.specs.Limits.{rowsMost};
+ghost use Rattle.catalogue.specs.Places.{RowThere, rowSeen};
+ghost use Rattle.tree_node.specs.Holds.{heldBy};
+ghost use Rattle.tree_node.specs.Reader.{restriction};
+ghost use Rattle.tree_node.specs.Answer.{isTree};
+ghost use Rattle.tree_select.specs.Select.{Selected};
+ghost use Rattle.tree_select.specs.Noted.{Noted};
+use catalogue::RowAt;
+
+// Whether the tree holds for the row at a place.
+fn holds_at(tree: &[u8], catalogue: &[u8], place: u32) -> bool
+    requires { ⌜ (isTree (restriction (now tree)) ≡ true) × RowThere (now catalogue) place ⌝ }
+    ensures { λ r. ⌜ r ≡ heldBy (restriction (now (tree .entry))) (rowSeen (now (catalogue .entry)) place) ⌝ }
+{
+    let RowAt::RowTo(row, _) = catalogue_row::row_again(catalogue, place as usize) else {
+        return false;
+    };
+    tree_hold::holds(tree, catalogue, row)
+}
+
+// The numbers of the selected rows go into the lent words from the first on; their count is returned. Each row is read once, at the
+// place that the check noted.
+pub fn select(
+    tree: &[u8],
+    catalogue: &[u8],
+    rows: u32,
+    places: &[u32; 1024],
+    into: &mut [u32],
+) -> u32
+    requires { ⌜ (isTree (restriction (now tree)) ≡ true) × Noted (now catalogue) rows (now places) × (rowsMost ≤ length (now into)) ⌝ }
+    ensures { λ r. ⌜ Selected (now (tree .entry)) (now (catalogue .entry)) (now (into .entry)) r (now (into .exit)) ⌝ }
+{
+    let mut count: u32 = 0;
+    let mut next: u32 = 0;
+    while next < rows {
+        let row = next;
+        next += 1;
+        let place = places[row as usize];
+        if !holds_at(tree, catalogue, place) {
+            continue;
+        }
+        into[count as usize] = row;
+        count += 1;
+    }
+    count
+}

@@ -1,0 +1,42 @@
+// What is said of a node of a tree: the place after it, and whether it holds.
+ghost use mathlib.Core.Path.{_≡_};
+ghost use Prim.Native.Nat.{_^_, _<_};
+ghost use Rattle.tree_verdict.specs.Told.{told, turned, withChild};
+
+// The kind of an and.
+const AND: u32 = 1;
+
+// A node's answer in one number, since two would be passed in memory: twice the place after the node, and one more where it holds.
+pub fn told(holds: bool, end: usize) -> usize
+    requires { ⌜ end < 2 ^ 63 ⌝ }
+    ensures { λ r. ⌜ r ≡ told holds end ⌝ }
+{
+    let twice = 2 * end;
+    if holds {
+        return twice + 1;
+    }
+    twice
+}
+
+// The answer of a not, from that of its child.
+pub fn turned(answer: usize) -> usize
+    ensures { λ r. ⌜ r ≡ turned answer ⌝ }
+{
+    if answer % 2 == 1 {
+        return answer - 1;
+    }
+    answer + 1
+}
+
+// What an and or an or holds with one child more.
+pub fn with_child(kind: u32, before: bool, child: bool) -> bool
+    ensures { λ r. ⌜ r ≡ withChild kind before child ⌝ }
+{
+    if kind == AND {
+        return tree_part::both(before, child);
+    }
+    if before {
+        return true;
+    }
+    child
+}

@@ -1,0 +1,131 @@
+// The fields of a message, each read at a place counted from the message's first byte: padding, numbers, flags and properties.
+ghost use mathlib.Core.Path.{_≡_};
+ghost use Prim.Native.Nat.{_+_, _%_, _≤_, _<_};
+ghost use lib.Dec.{leb};
+ghost use lib.ListN.{length};
+ghost use Rattle.wire_field.specs.Fields.{paddedOn, numberOn, flagOn, setSize, setOurs, propertyOn};
+
+// A place after padding.
+pub enum PlaceRead {
+    Place(usize),
+    Malformed,
+}
+
+// A number with the place after it.
+pub enum NumberRead {
+    Number(u32, usize),
+    Malformed,
+}
+
+// A full property: the set identifier, the kind of what follows, and the property's number.
+const SET_SIZE: usize = 16;
+
+const SET_FIRST: usize = 0x10;
+
+const KIND_AT: usize = SET_SIZE;
+
+const NUMBERED: u32 = 1;
+
+const PROPERTY_AT: usize = KIND_AT + 4;
+
+const SPEC_SIZE: usize = PROPERTY_AT + 4;
+
+// Whether n bytes from a place on end within a length.
+fn room(len: usize, at: usize, n: usize) -> bool
+    ensures { λ r. ⌜ r ≡ leb (at + n) len ⌝ }
+{
+    if len < n {
+        return false;
+    }
+    at <= len - n
+}
+
+// The next multiple of a unit, with zero bytes up to it.
+pub fn padded_on(m: &[u8], at: usize, unit: usize) -> PlaceRead
+    requires { ⌜ 0 < unit ⌝ }
+    ensures { λ r. ⌜ r ≡ paddedOn unit (now (m .entry)) at ⌝ }
+{
+    let over = at % unit;
+    let pad = (unit - over) % unit;
+    if !room(m.len(), at, pad) {
+        return PlaceRead::Malformed;
+    }
+    let mut i = 0;
+    while i < pad {
+        let place = at + i;
+        if m[place] != 0 {
+            return PlaceRead::Malformed;
+        }
+        i += 1;
+    }
+    let next = at + pad;
+    PlaceRead::Place(next)
+}
+
+// A number of two or four bytes.
+pub fn number_on(m: &[u8], at: usize, n: usize) -> NumberRead
+    requires { ⌜ (2 ≤ n) × (n ≤ 4) × (n % 2 ≡ 0) ⌝ }
+    ensures { λ r. ⌜ r ≡ numberOn n (now (m .entry)) at ⌝ }
+{
+    if !room(m.len(), at, n) {
+        return NumberRead::Malformed;
+    }
+    let next = at + n;
+    if n == 2 {
+        let v = wire_word::half(m, at);
+        return NumberRead::Number(v, next);
+    }
+    let v = wire_word::word(m, at);
+    NumberRead::Number(v, next)
+}
+
+// A used flag.
+pub fn flag_on(m: &[u8], at: usize) -> NumberRead
+    ensures { λ r. ⌜ r ≡ flagOn (now (m .entry)) at ⌝ }
+{
+    if !room(m.len(), at, 1) {
+        return NumberRead::Malformed;
+    }
+    let flag = m[at] as u32;
+    if 1 < flag {
+        return NumberRead::Malformed;
+    }
+    let next = at + 1;
+    NumberRead::Number(flag, next)
+}
+
+// Whether the sixteen bytes at a place are our set identifier.
+fn set_ours(m: &[u8], at: usize) -> bool
+    requires { ⌜ at + setSize ≤ length (now m) ⌝ }
+    ensures { λ r. ⌜ r ≡ setOurs (now (m .entry)) at ⌝ }
+{
+    let mut i = 0;
+    while i < SET_SIZE {
+        let place = at + i;
+        let byte = m[place] as usize;
+        if byte != SET_FIRST + i {
+            return false;
+        }
+        i += 1;
+    }
+    true
+}
+
+// The property of a column, 0 where it is of another set.
+pub fn property_on(m: &[u8], at: usize) -> NumberRead
+    ensures { λ r. ⌜ r ≡ propertyOn (now (m .entry)) at ⌝ }
+{
+    if !room(m.len(), at, SPEC_SIZE) {
+        return NumberRead::Malformed;
+    }
+    let next = at + SPEC_SIZE;
+    let kind = wire_word::word(m, at + KIND_AT);
+    if kind != NUMBERED {
+        return NumberRead::Malformed;
+    }
+    if !set_ours(m, at) {
+        return NumberRead::Number(0, next);
+    }
+    let property = wire_word::word(m, at + PROPERTY_AT);
+    NumberRead::Number(property, next)
+}

@@ -1,0 +1,26 @@
+-- The low word and then the high one are the long. Assumes nothing.
+use borrow.Author.Needs.{needs}
+use Rattle.wire_lay_word.proofs.lay_long.Statement.{statement}
+use Rattle.wire_lay_word.proofs.lay_long.Tie as tie
+use native.Mathlib.Omega.{arith}
+use Rattle.wire_lay.proofs.Little.{lay-words}
+
+lay-word-requires : tie.Need-lay-word-requires
+lay-word-requires c κs = search needs
+
+add-lay-word : tie.Need-add-lay-word
+add-lay-word c = search needs
+
+lay-word-requires-2 : tie.Need-lay-word-requires-2
+lay-word-requires-2 c κs = search needs
+
+same-length : tie.Need-same-length
+same-length c = search needs
+
+returns : tie.Need-returns
+returns c = let a = c .before .before .before .before .before .before .before .before .before .args in
+    let h = lay-words (a .reply .now) (a .at) (a .value) (omega arith) in cc
+
+pub lay-long-spec : {M : Type 1} → statement M
+lay-long-spec =
+    tie.close (tie.spec lay-word-requires add-lay-word lay-word-requires-2 same-length returns)

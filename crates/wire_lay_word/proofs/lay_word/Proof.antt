@@ -1,0 +1,26 @@
+-- The low half and then the high one are the word. Assumes nothing.
+use borrow.Author.Needs.{needs}
+use Rattle.wire_lay_word.proofs.lay_word.Statement.{statement}
+use Rattle.wire_lay_word.proofs.lay_word.Tie as tie
+use native.Mathlib.Omega.{arith}
+use Rattle.wire_lay.proofs.Little.{lay-halves}
+
+lay-half-requires : tie.Need-lay-half-requires
+lay-half-requires c κs = search needs
+
+add-lay-half : tie.Need-add-lay-half
+add-lay-half c = search needs
+
+lay-half-requires-2 : tie.Need-lay-half-requires-2
+lay-half-requires-2 c κs = search needs
+
+same-length : tie.Need-same-length
+same-length c = search needs
+
+returns : tie.Need-returns
+returns c = let a = c .before .before .before .before .before .before .before .before .before .args in
+    let h = lay-halves (a .reply .now) (a .at) (a .value) (omega arith) in cc
+
+pub lay-word-spec : {M : Type 1} → statement M
+lay-word-spec =
+    tie.close (tie.spec lay-half-requires add-lay-half lay-half-requires-2 same-length returns)
