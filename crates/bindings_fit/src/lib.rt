@@ -2,8 +2,8 @@
 ghost use mathlib.Core.Path.{_≡_};
 ghost use Prim.Native.Nat.{_≤_};
 ghost use lib.ListN.{length};
-ghost use Rattle.bindings_column.specs.Column.{columnsMost, roomWords, columnsOf};
-ghost use Rattle.bindings_column.specs.Fit.{columnsFit, fit};
+ghost use Rattle.bindings.specs.Column.{columnsMost, roomWords, columnsOf};
+ghost use Rattle.bindings.specs.Fit.{columnsFit, fit};
 
 // The columns for rows of a width, once their count is in range.
 fn columns_for(words: &[u32], count: usize, width: u32) -> bool
@@ -28,10 +28,10 @@ pub fn fit(words: &[u32], count: u32, width: u32) -> bool
     requires { ⌜ length (now words) ≡ roomWords ⌝ }
     ensures { λ r. ⌜ r ≡ fit width (columnsOf count (now (words .entry))) ⌝ }
 {
-    if !bindings_column::within(1, bindings_column::COLUMNS_MOST, count) {
+    if !bindings_column::within(1, bindings::COLUMNS_MOST, count) {
         return false;
     }
-    if !bindings_column::within(1, bindings_column::ROW_MOST, width) {
+    if !bindings_column::within(1, bindings::ROW_MOST, width) {
         return false;
     }
     columns_for(words, count as usize, width)

@@ -1,12 +1,12 @@
 // The layout of a row: each span lies in it, and no two meet.
-use bindings_column::Span;
+use bindings::Span;
 ghost use mathlib.Core.Path.{_≡_};
 ghost use Prim.Native.Nat.{_+_, _≤_};
 ghost use lib.ListN.{length};
-ghost use Rattle.bindings_column.specs.Each.{every, pairwise};
-ghost use Rattle.bindings_column.specs.Column.{roomWords};
-ghost use Rattle.bindings_column.specs.Fit.{apart, inside};
-ghost use Rattle.bindings_column.specs.Spans.{spansFrom, spansMost};
+ghost use Rattle.lists.specs.Every.{every, pairwise};
+ghost use Rattle.bindings.specs.Column.{roomWords};
+ghost use Rattle.bindings.specs.Fit.{apart, inside};
+ghost use Rattle.bindings.specs.Spans.{spansFrom, spansMost};
 
 // Whether each span lies in the row.
 pub fn all_inside(words: &[u32], total: usize, width: u32) -> bool

@@ -2,21 +2,21 @@
 ghost use mathlib.Core.Path.{_≡_};
 ghost use Prim.Native.Nat.{_+_, _≤_, _<_};
 ghost use lib.ListN.{length};
-ghost use Rattle.bindings_column.specs.Each.{every, pairwise};
-ghost use Rattle.bindings_column.specs.Column.{columnsMost, roomWords, columnAt, columnsFrom, columnsOf};
-ghost use Rattle.bindings_column.specs.Fit.{columnFits, unlike, differ};
+ghost use Rattle.lists.specs.Every.{every, pairwise};
+ghost use Rattle.bindings.specs.Column.{columnsMost, roomWords, columnAt, columnsFrom, columnsOf};
+ghost use Rattle.bindings.specs.Fit.{columnFits, unlike, differ};
 
 // The type and size of the k-th column, against its property.
 fn column_fits(words: &[u32], k: usize) -> bool
     requires { ⌜ (length (now words) ≡ roomWords) × (k < columnsMost) ⌝ }
     ensures { λ r. ⌜ r ≡ columnFits (columnAt (now (words .entry)) k) ⌝ }
 {
-    let at = bindings_column::COLUMN_WORDS * k;
+    let at = bindings::COLUMN_WORDS * k;
     let property = words[at];
     let vtype = words[at + 1];
     let used = words[at + 2];
     let given = words[at + 4];
-    if !bindings_column::within(bindings_column::KEY, bindings_column::NOTE, property) {
+    if !bindings_column::within(wire::KEY, wire::NOTE, property) {
         return false;
     }
     let size = bindings_column::cell_size(property, vtype);
@@ -54,7 +54,7 @@ fn unbound(words: &[u32], from: usize, count: usize, property: u32) -> bool
     let mut k = from;
     let mut left = count;
     while 0 < left {
-        if words[bindings_column::COLUMN_WORDS * k] == property {
+        if words[bindings::COLUMN_WORDS * k] == property {
             return false;
         }
         k += 1;
@@ -71,7 +71,7 @@ pub fn bound_once(words: &[u32], count: usize) -> bool
     let mut k = 0;
     let mut left = count;
     while 0 < left {
-        let property = words[bindings_column::COLUMN_WORDS * k];
+        let property = words[bindings::COLUMN_WORDS * k];
         k += 1;
         left -= 1;
         if !unbound(words, k, left, property) {

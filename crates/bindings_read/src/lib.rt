@@ -1,19 +1,12 @@
 // The message that sets a cursor's bindings, read to values.
-use bindings_wire::ColumnRead;
-use wire_field::PlaceRead;
 ghost use mathlib.Core.Path.{_≡_};
 ghost use lib.ListN.{length};
-ghost use Rattle.bindings_column.specs.Column.{roomWords};
-ghost use Rattle.bindings_read.specs.Bindings.{columnsAt, columnsOn, keeping, keptOr};
-ghost use Rattle.bindings_read.specs.Told.{malformed, Told};
-
-// What a message holds, but for its columns.
-pub struct BindingsRead {
-    pub malformed: bool,
-    pub handle: u32,
-    pub width: u32,
-    pub count: u32,
-}
+ghost use Rattle.bindings.specs.Column.{roomWords};
+ghost use Rattle.bindings.specs.Bindings.{columnsAt, columnsOn, keeping, keptOr};
+ghost use Rattle.bindings.specs.Told.{malformed, Told};
+use bindings::BindingsRead;
+use bindings::ColumnRead;
+use wire::PlaceRead;
 
 // The places of the body's fields.
 const HANDLE_AT: usize = 16;

@@ -1,8 +1,8 @@
 // The columns of a cursor as records of nine words: clearing their room, and keeping a column in it.
 ghost use mathlib.Core.Path.{_≡_};
 ghost use lib.ListN.{length};
-ghost use Rattle.bindings_column.specs.Column.{roomWords, noWords, kept};
-use bindings_column::Column;
+ghost use Rattle.bindings.specs.Column.{roomWords, noWords, kept};
+use bindings::Column;
 
 // Clears the room for five columns.
 pub fn clear(words: &mut [u32])
@@ -21,10 +21,10 @@ pub fn keep(words: &mut [u32], k: usize, c: Column)
     requires { ⌜ length (now words) ≡ roomWords ⌝ }
     ensures { λ _. ⌜ now (words .exit) ≡ kept (now (words .entry)) k c ⌝ }
 {
-    if (bindings_column::COLUMNS_MOST as usize) <= k {
+    if (bindings::COLUMNS_MOST as usize) <= k {
         return;
     }
-    let at = bindings_column::COLUMN_WORDS * k;
+    let at = bindings::COLUMN_WORDS * k;
     words[at] = c.property;
     words[at + 1] = c.vtype;
     words[at + 2] = c.value.used;

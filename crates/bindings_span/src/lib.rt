@@ -1,11 +1,11 @@
 // The spans of a row by index, three to a column: its value, its status, its length; and whether two of them meet.
-use bindings_column::Span;
+use bindings::Span;
 ghost use mathlib.Core.Path.{_≡_};
 ghost use Prim.Native.Nat.{_+_, _<_};
 ghost use lib.ListN.{length};
-ghost use Rattle.bindings_column.specs.Column.{roomWords};
-ghost use Rattle.bindings_column.specs.Fit.{apart};
-ghost use Rattle.bindings_column.specs.Spans.{spanOr, spanAt, spansMost};
+ghost use Rattle.bindings.specs.Column.{roomWords};
+ghost use Rattle.bindings.specs.Fit.{apart};
+ghost use Rattle.bindings.specs.Spans.{spanOr, spanAt, spansMost};
 
 // A span, or an empty one where it is not used.
 fn span_or(used: u32, place: u32, size: u32) -> Span
@@ -22,15 +22,15 @@ pub fn span_at(words: &[u32], i: usize) -> Span
     requires { ⌜ (length (now words) ≡ roomWords) × (i < spansMost) ⌝ }
     ensures { λ r. ⌜ r ≡ spanAt (now (words .entry)) i ⌝ }
 {
-    let at = bindings_column::COLUMN_WORDS * (i / 3);
+    let at = bindings::COLUMN_WORDS * (i / 3);
     let part = i % 3;
     if part == 0 {
         return span_or(words[at + 2], words[at + 3], words[at + 4]);
     }
     if part == 1 {
-        return span_or(words[at + 5], words[at + 6], bindings_column::STATUS_SIZE);
+        return span_or(words[at + 5], words[at + 6], wire::STATUS_SIZE);
     }
-    span_or(words[at + 7], words[at + 8], bindings_column::LENGTH_SIZE)
+    span_or(words[at + 7], words[at + 8], wire::LENGTH_SIZE)
 }
 
 // The place after a span, which need not fit 32 bits.

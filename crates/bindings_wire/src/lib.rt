@@ -1,26 +1,14 @@
 // A column in a message, read at a place counted from the message's first byte.
-use bindings_column::Column;
-use bindings_column::Spot;
-use bindings_column::Value;
-use wire_field::NumberRead;
-use wire_field::PlaceRead;
 ghost use mathlib.Core.Path.{_≡_};
-ghost use Rattle.bindings_wire.specs.Wire.{spotOn, valueOn, columnOn};
-
-pub enum SpotRead {
-    At(Spot, usize),
-    Malformed,
-}
-
-pub enum ValueRead {
-    At(Value, usize),
-    Malformed,
-}
-
-pub enum ColumnRead {
-    At(Column, usize),
-    Malformed,
-}
+ghost use Rattle.bindings.specs.Wire.{spotOn, valueOn, columnOn};
+use bindings::Column;
+use bindings::ColumnRead;
+use bindings::Spot;
+use bindings::SpotRead;
+use bindings::Value;
+use bindings::ValueRead;
+use wire::NumberRead;
+use wire::PlaceRead;
 
 // The bytes of a column's type.
 const TYPE_WIDTH: usize = 4;

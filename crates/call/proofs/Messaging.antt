@@ -6,7 +6,7 @@ use Prim.Native.Nat.{ℕ, _+_, _-_, _≤_, _<_}
 use native.Mathlib.Omega.{arith}
 use borrow.Author.Tests.{ne-eqb, lt-ltb, le-ltb, le-leb, lt-leb}
 use lib.ListN.{length}
-use Rattle.wire_checksum.specs.Checksum.{messageSized}
+use Rattle.wire.specs.Checksum.{messageSized}
 use Rattle.table.specs.Layout.{seatSize, seatAt, put}
 use Rattle.fetch.specs.Ready.{rowsOf}
 use Rattle.refusal.specs.Refusal.{firstCause}

@@ -9,18 +9,18 @@ use borrow.Author.Tests.{eq-eqb, ne-eqb, eqb-true, eqb-false}
 use lib.ListN.{length, take}
 use lib.Seq.{take-at, drop-at, take-all}
 use lib.Dec.{eqb}
-use Rattle.wire_word.proofs.Below.{by-test, true≢false}
+use Rattle.lists.proofs.Below.{by-test, true≢false}
 use Rattle.catalogue.specs.Limits.{rowsMost}
 use Rattle.catalogue.specs.Plain.{catalogue}
 use Rattle.catalogue.specs.Places.{checked}
-use Rattle.tree_select.specs.Noted.{Noted}
-use Rattle.tree_select.proofs.SelectLaws.{noted-by-check}
+use Rattle.tree.specs.Noted.{Noted}
+use Rattle.tree.proofs.SelectLaws.{noted-by-check}
 use Rattle.table.specs.Layout.{seats, cursorSize, cursorPlace, part, put, blockOf}
 use Rattle.table.specs.Seat.{Cursor, Seat, cursorBlock, seatBlock, withCursor}
 use Rattle.table.specs.Well.{tableWell}
 use Rattle.table.specs.Fits.{CursorOk, SeatOk}
 use Rattle.table.proofs.Seats.{cursor-block}
-use Rattle.message.specs.Message.{isOpen}
+use Rattle.table.specs.Open.{isOpen}
 use Rattle.refusal.specs.Refusal.{firstCause}
 use Rattle.message.proofs.Bodies.{put-handle}
 use Rattle.refusal.proofs.First.{first-stop, first-go}

@@ -9,19 +9,19 @@ use native.Mathlib.Omega.{arith}
 use borrow.Author.Tests.{eqb-true, lt-ltb}
 use lib.Dec.{ltb, eqb}
 use lib.ListN.{length, getD, length-map}
-use Rattle.wire_word.proofs.Below.{by-test, true≢false, both-left, both-right, both-true, every-at, every-shown}
-use Rattle.wire_word.proofs.Options.{none≢some, some-is}
+use Rattle.lists.proofs.Below.{by-test, true≢false, both-left, both-right, both-true, every-at, every-shown}
+use Rattle.lists.proofs.Options.{none≢some, some-is}
 use Rattle.catalogue.specs.Plain.{Row, catalogue}
 use Rattle.catalogue.specs.Places.{checked, places, rowSeen}
 use Rattle.catalogue.proofs.Agree.{accepted, catalogue-agrees, rows-counted}
-use Rattle.bindings_column.specs.Each.{every}
-use Rattle.tree_node.specs.Tree.{Tree}
-use Rattle.tree_node.specs.Holds.{holds}
-use Rattle.tree_node.specs.Reader.{restriction}
-use Rattle.tree_node.proofs.Rising.{rises, rises-between}
-use Rattle.tree_select.specs.Select.{selection, selectedBy}
-use Rattle.tree_select.proofs.Selection.{numbers-few, numbers-rise}
-use Rattle.tree_select.proofs.SelectLaws.{rows-few}
+use Rattle.lists.specs.Every.{every}
+use Rattle.tree.specs.Tree.{Tree}
+use Rattle.tree.specs.TreeHolds.{holds}
+use Rattle.tree.specs.Reader.{restriction}
+use Rattle.lists.proofs.Rising.{rises, rises-between}
+use Rattle.tree.specs.Select.{selection, selectedBy}
+use Rattle.tree.proofs.Selection.{numbers-few, numbers-rise}
+use Rattle.tree.proofs.SelectLaws.{rows-few}
 use Rattle.table.specs.Layout.{seats, blockOf}
 use Rattle.table.specs.Seat.{Cursor, Seat, seatBlock, seatOf, fresh, opened, withCursor}
 use Rattle.table.specs.Well.{tableWell, cursorBelow, seatBelow, tableBelow}
@@ -34,7 +34,7 @@ use Rattle.fetch.specs.Ready.{rowsOf}
 use Rattle.message.specs.Message.{seatMessage}
 use Rattle.message.proofs.Bodies.{with-fits}
 use Rattle.refusal.proofs.First.{first-both}
-use Rattle.message_keep.proofs.Keeping.{message-fits, message-below}
+use Rattle.message.proofs.Keeping.{message-fits, message-below}
 use Rattle.query.specs.Open.{freeHandle, openCauses, openedOn}
 use Rattle.call.specs.Step.{Sources, sourcesOf, openDone, openStep, rowsHold, judging, seatHeld, isConnected, seated, sizing, connectCauses, connectStep, messageStep}
 use Rattle.call.proofs.Causes.{judging-numbered, passes}

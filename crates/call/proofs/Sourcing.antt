@@ -9,13 +9,13 @@ use native.Mathlib.Nat.{not-suc-le-zero, le-of-suc-le-suc}
 use native.Mathlib.Omega.{arith}
 use lib.ListN.{length, getD, take, drop, length-map}
 use lib.Seq.{length-sets}
-use Rattle.wire_word.proofs.Below.{true≢false}
+use Rattle.lists.proofs.Below.{true≢false}
 use Rattle.catalogue.specs.Plain.{Row, catalogue}
 use Rattle.catalogue.specs.Places.{places, rowSeen}
 use Rattle.catalogue.proofs.Agree.{catalogue-agrees}
-use Rattle.page_write.specs.Reads.{rowIn}
-use Rattle.tree_select.specs.Noted.{Noted}
-use Rattle.tree_select.proofs.SelectLaws as Laws
+use Rattle.page.specs.Reads.{rowIn}
+use Rattle.tree.specs.Noted.{Noted}
+use Rattle.tree.proofs.SelectLaws as Laws
 use Rattle.table.specs.Layout.{seats, seatSize}
 use Rattle.table.specs.Well.{seatBelow}
 use Rattle.table.proofs.Judging.{part-is}

@@ -6,8 +6,8 @@ use mathlib.Core.Option.{Option, none, some}
 use Prim.Native.Nat.{ℕ}
 use lib.Dec.{ltb, eqb}
 use lib.ListN.{length, drop}
-use Rattle.wire_word.specs.Below.{pick}
-use Rattle.wire_checksum.specs.Checksum.{messageSized}
+use Rattle.lists.specs.Below.{pick}
+use Rattle.wire.specs.Checksum.{messageSized}
 use Rattle.catalogue.specs.Plain.{Row, catalogue}
 use Rattle.table.specs.Layout.{seatSize, seatAt, put, blockOf}
 use Rattle.table.specs.Seat.{Seat, seatBlock, seatOf, fresh}

@@ -1,7 +1,7 @@
 // Connecting a seat, over a lent table of sessions and a lent catalogue.
 ghost use mathlib.Core.List.{[]};
 ghost use Rattle.call.specs.Step.{sourcesOf, connectStep, Keeps};
-use call::Seat;
+use table::Seat;
 
 // Connects a seat.
 pub fn connect(table: &mut [u32], catalogue: &[u8], seat: Seat, version: u32) -> u32

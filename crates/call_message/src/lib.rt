@@ -1,8 +1,8 @@
 // A message from a seat and its reply, over a lent table of sessions and a lent catalogue.
 ghost use lib.ListN.{length};
 ghost use Rattle.call.specs.Step.{sourcesOf, messageStep, Keeps};
-use call::Seat;
 use message::Answered;
+use table::Seat;
 
 // A message from a seat.
 pub fn message(

@@ -1,9 +1,9 @@
 // Opening a query on a seat, over a lent table of sessions and a lent catalogue.
 ghost use mathlib.Core.List.{[]};
 ghost use Rattle.call.specs.Step.{sourcesOf, openStep, Keeps};
-use call::Handle;
 use call::Opened;
-use call::Seat;
+use table::Handle;
+use table::Seat;
 
 // Opens a query on a seat: the rows that the tree selects.
 pub fn open(table: &mut [u32], catalogue: &[u8], seat: Seat, tree: &[u8]) -> Opened

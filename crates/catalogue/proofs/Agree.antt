@@ -11,13 +11,13 @@ use borrow.Author.Tests.{eqb-true, eqb-false}
 use lib.Dec.{leb, eqb, leb·zero, eqb·suc-zero}
 use lib.ListN.{length, getD, take, drop, length-drop, drop-of-length-le}
 use lib.Seq.{drop-drop, drop-cons}
-use Rattle.wire_word.specs.Below.{pick, both, everyBelow}
-use Rattle.wire_word.specs.Word.{halves}
-use Rattle.wire_word.proofs.Below.{by-test, true≢false}
-use Rattle.catalogue_number.specs.Groups.{groups, within, number, splitAfter}
-use Rattle.catalogue_number.specs.Reading.{placed, readingAt}
-use Rattle.catalogue_number.specs.declared.Reading.{Reading}
-use Rattle.catalogue_number.specs.declared.Reading.the-variants.{Number, Malformed}
+use Rattle.lists.specs.Below.{pick, both, everyBelow}
+use Rattle.wire.specs.Word.{halves}
+use Rattle.lists.proofs.Below.{by-test, true≢false}
+use Rattle.catalogue.specs.Groups.{groups, within, number, splitAfter}
+use Rattle.catalogue.specs.Reading.{placed, readingAt}
+use Rattle.catalogue.specs.declared.Reading.{Reading}
+use Rattle.catalogue.specs.declared.Reading.the-variants.{Number, Malformed}
 use Rattle.catalogue.specs.Limits.{rowsMost, keyMost, numberMost, sizeMost, bytesMost}
 use Rattle.catalogue.specs.Plain.{Row, andThen, noneZero, textAfter, text, row, rows, whole, catalogue, refusalOf}
 use Rattle.catalogue.specs.Places.{withNumber, withText, withRow, textAfterAt, textAt, rowAt, rowsEnd, placesFrom, counted, malformed, checked, places, textOf, rowOf, rowSeen}
@@ -27,7 +27,7 @@ use Rattle.catalogue.specs.declared.TextAt.{TextAt}
 use Rattle.catalogue.specs.declared.TextAt.the-variants.{TextTo, NoText}
 use Rattle.catalogue.specs.declared.RowAt.{RowAt}
 use Rattle.catalogue.specs.declared.RowAt.the-variants.{RowTo, NoRow}
-use Rattle.catalogue_number.proofs.Inside.{reading-read}
+use Rattle.catalogue.proofs.Inside.{reading-read}
 use Rattle.catalogue.proofs.RowLaws.{row-inside}
 
 -- an answer by place as the plain parser would give it: the value, and the bytes after it

@@ -1,4 +1,12 @@
+pub mod Carry
+pub mod Inside
+pub mod NumberRoundTrip
+pub mod NumberVectors
 pub mod RowLaws
 pub mod Agree
 pub mod RoundTrip
 pub mod Vectors
+pub mod TextLaws
+pub mod EndLaws
+pub mod RowsLaws
+pub mod CheckLaws

@@ -11,13 +11,13 @@ use borrow.Author.Tests.{ne-eqb, eqb-false, le-leb, leb-true, not-true}
 use lib.Dec.{leb, eqb}
 use lib.ListN.{length, getD, take, drop, length-append, take-append-drop}
 use lib.Seq.{take-at, drop-at, getD-append-add, length-take-le}
-use Rattle.wire_word.specs.Below.{both}
-use Rattle.wire_word.specs.Word.{Bytes, halves, le}
-use Rattle.wire_word.proofs.Halves.{halves-length}
-use Rattle.wire_word.proofs.Options.{none≢some, some-is, pair-is}
-use Rattle.wire_word.proofs.Below.{by-test, both-left, both-right, every-at, every-shown}
-use Rattle.catalogue_number.specs.Groups.{number, written}
-use Rattle.catalogue_number.proofs.RoundTrip.{number-written, number-read}
+use Rattle.lists.specs.Below.{both}
+use Rattle.wire.specs.Word.{Bytes, halves, le}
+use Rattle.wire.proofs.Halves.{halves-length}
+use Rattle.lists.proofs.Options.{none≢some, some-is, pair-is}
+use Rattle.lists.proofs.Below.{by-test, both-left, both-right, every-at, every-shown}
+use Rattle.catalogue.specs.Groups.{number, written}
+use Rattle.catalogue.proofs.NumberRoundTrip.{number-written, number-read}
 use Rattle.catalogue.specs.Limits.{rowsMost, keyMost, numberMost, sizeMost, bytesMost}
 use Rattle.catalogue.specs.Plain.{Row, andThen, noneZero, textAfter, text, row, rows, whole, catalogue}
 use Rattle.catalogue.specs.Writer.{unitBytes, writeText, writeRow, writeRows, write, TextFits, RowFits, RowsFit, Fits}

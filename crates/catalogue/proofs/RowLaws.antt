@@ -8,13 +8,13 @@ use native.Mathlib.Omega.{arith}
 use borrow.Author.Tests.{leb-true}
 use lib.Dec.{leb}
 use lib.ListN.{length, take, drop}
-use Rattle.wire_word.specs.Below.{both}
-use Rattle.wire_word.specs.Word.{halves}
-use Rattle.wire_word.proofs.Below.{by-test, both-left, both-right}
-use Rattle.catalogue_number.specs.Reading.{readingAt}
-use Rattle.catalogue_number.specs.declared.Reading.{Reading}
-use Rattle.catalogue_number.specs.declared.Reading.the-variants.{Number, Malformed}
-use Rattle.catalogue_number.proofs.Inside.{Read, reading-read}
+use Rattle.lists.specs.Below.{both}
+use Rattle.wire.specs.Word.{halves}
+use Rattle.lists.proofs.Below.{by-test, both-left, both-right}
+use Rattle.catalogue.specs.Reading.{readingAt}
+use Rattle.catalogue.specs.declared.Reading.{Reading}
+use Rattle.catalogue.specs.declared.Reading.the-variants.{Number, Malformed}
+use Rattle.catalogue.proofs.Inside.{Read, reading-read}
 use Rattle.catalogue.specs.Limits.{keyMost, numberMost, sizeMost}
 use Rattle.catalogue.specs.Plain.{noneZero}
 use Rattle.catalogue.specs.Places.{withNumber, withText, unitBytesOf, unitsPart, textAfterAt, textAt, rowAt, TextThere, RowThere}

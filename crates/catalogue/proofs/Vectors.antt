@@ -3,10 +3,10 @@ use mathlib.Core.Path.{_≡_, refl}
 use mathlib.Core.List.{List, [], _∷_}
 use mathlib.Core.Option.{none, some}
 use Prim.Native.Nat.{ℕ}
-use Rattle.wire_word.specs.Below.{everyBelow}
-use Rattle.wire_word.specs.Word.{halves}
-use Rattle.catalogue_number.specs.Groups.{groups, number}
-use Rattle.catalogue_number.specs.Reading.{readingAt}
+use Rattle.lists.specs.Below.{everyBelow}
+use Rattle.wire.specs.Word.{halves}
+use Rattle.catalogue.specs.Groups.{groups, number}
+use Rattle.catalogue.specs.Reading.{readingAt}
 use Rattle.catalogue.specs.Plain.{Row, text, row, rows, catalogue}
 use Rattle.catalogue.specs.Places.{textAt, rowAt, rowsEnd, placesFrom, checked, places}
 

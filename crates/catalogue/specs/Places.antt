@@ -8,11 +8,11 @@ use Prim.Native.Nat.{ℕ, zero, suc, _+_, _-_, _*_}
 use lib.Dec.{leb, eqb}
 use lib.ListN.{length, take, drop}
 use lib.Seq.{sets}
-use Rattle.wire_word.specs.Below.{pick, both}
-use Rattle.wire_word.specs.Word.{halves}
-use Rattle.catalogue_number.specs.Reading.{readingAt}
-use Rattle.catalogue_number.specs.declared.Reading.{Reading}
-use Rattle.catalogue_number.specs.declared.Reading.the-variants.{Number, Malformed}
+use Rattle.lists.specs.Below.{pick, both}
+use Rattle.wire.specs.Word.{halves}
+use Rattle.catalogue.specs.Reading.{readingAt}
+use Rattle.catalogue.specs.declared.Reading.{Reading}
+use Rattle.catalogue.specs.declared.Reading.the-variants.{Number, Malformed}
 use Rattle.catalogue.specs.Limits.{rowsMost, keyMost, numberMost, sizeMost, bytesMost}
 use Rattle.catalogue.specs.Plain.{Row, noneZero}
 use Rattle.catalogue.specs.declared.Text.{Text}

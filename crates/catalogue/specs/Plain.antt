@@ -6,9 +6,9 @@ use mathlib.Core.Option.{Option, none, some}
 use Prim.Native.Nat.{ℕ, zero, suc, _*_}
 use lib.Dec.{leb, eqb}
 use lib.ListN.{length, getD, take, drop}
-use Rattle.wire_word.specs.Below.{pick, both, everyBelow}
-use Rattle.wire_word.specs.Word.{halves}
-use Rattle.catalogue_number.specs.Groups.{number}
+use Rattle.lists.specs.Below.{pick, both, everyBelow}
+use Rattle.wire.specs.Word.{halves}
+use Rattle.catalogue.specs.Groups.{number}
 use Rattle.catalogue.specs.Limits.{rowsMost, keyMost, numberMost, sizeMost, bytesMost}
 
 -- "for each row: key, language, default, label, note"; a label or note is absent, or its units

@@ -3,8 +3,8 @@ use mathlib.Core.List.{List, [], _∷_, _++_}
 use mathlib.Core.Option.{Option, none, some}
 use Prim.Native.Nat.{ℕ, _+_, _≤_, _<_}
 use lib.ListN.{length, getD}
-use Rattle.wire_word.specs.Word.{le}
-use Rattle.catalogue_number.specs.Groups.{written}
+use Rattle.wire.specs.Word.{le}
+use Rattle.catalogue.specs.Groups.{written}
 use Rattle.catalogue.specs.Limits.{rowsMost, keyMost, numberMost, sizeMost, bytesMost}
 use Rattle.catalogue.specs.Plain.{Row}
 

@@ -6,7 +6,7 @@ ghost use lib.Seq.{sets};
 ghost use Rattle.catalogue.specs.Limits.{rowsMost, bytesMost};
 ghost use Rattle.catalogue.specs.Places.{rowsEnd, placesFrom, checked, noted};
 use catalogue::Checked;
-use catalogue_number::Reading;
+use catalogue::Reading;
 
 pub const ROWS_MOST: u64 = 1024;
 

@@ -1,9 +1,9 @@
 // The place after a text and after a row of the option catalogue, for the check, which keeps neither.
 ghost use mathlib.Core.Path.{_≡_};
-ghost use Rattle.wire_word.specs.Word.{halves};
+ghost use Rattle.wire.specs.Word.{halves};
 ghost use Rattle.catalogue.specs.Plain.{noneZero};
 ghost use Rattle.catalogue.specs.Places.{textAt, rowAt, textEnd, rowEnd};
-use catalogue_number::Reading;
+use catalogue::Reading;
 
 // No unit of a part is zero. There is no early return, so that many units are looked at in one step.
 fn none_zero(units: &[u8]) -> bool
@@ -28,7 +28,7 @@ fn text_end(s: &[u8], at: usize) -> usize
     let Reading::Number(size, start) = catalogue_read::read(s, at, catalogue::SIZE_MOST) else {
         return 0;
     };
-    let end = catalogue::units_end(size as usize, start);
+    let end = catalogue_text::units_end(size as usize, start);
     if s.len() < end {
         return 0;
     }

@@ -2,14 +2,9 @@
 ghost use mathlib.Core.Path.{_≡_};
 ghost use Prim.Native.Nat.{_+_, _<_};
 ghost use lib.ListN.{length, drop};
-ghost use Rattle.catalogue_number.specs.Groups.{groups, further, within};
-ghost use Rattle.catalogue_number.specs.Reading.{placed};
-
-// A number with the place after it.
-pub enum Reading {
-    Number(u64, usize),
-    Malformed,
-}
+ghost use Rattle.catalogue.specs.Groups.{groups, further, within};
+ghost use Rattle.catalogue.specs.Reading.{placed};
+use catalogue::Reading;
 
 // The number that begins at a place, if it is well formed and at most the limit, where the group there has its top bit set
 // and holds `low` beside it. What the groups to come may hold at most is `room`, so neither the value nor the weight can pass

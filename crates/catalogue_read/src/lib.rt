@@ -1,7 +1,7 @@
 // The reader of a number: the first group, and those after it.
 ghost use mathlib.Core.Path.{_≡_};
-ghost use Rattle.catalogue_number.specs.Reading.{readingAt};
-use catalogue_number::Reading;
+ghost use Rattle.catalogue.specs.Reading.{readingAt};
+use catalogue::Reading;
 
 // The number that begins at a place, if it is well formed and at most the limit.
 pub fn read(s: &[u8], at: usize, limit: u64) -> Reading

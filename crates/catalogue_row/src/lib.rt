@@ -2,10 +2,10 @@
 ghost use mathlib.Core.Path.{_≡_};
 ghost use Rattle.catalogue.specs.Places.{textAt, rowAt, TextThere, RowThere};
 use catalogue::Fields;
+use catalogue::Reading;
 use catalogue::RowAt;
 use catalogue::Text;
 use catalogue::TextAt;
-use catalogue_number::Reading;
 
 // The text that is known to stand at a place: its units are not looked at again.
 fn text_again(s: &[u8], at: usize) -> TextAt
@@ -16,7 +16,7 @@ fn text_again(s: &[u8], at: usize) -> TextAt
         return TextAt::NoText;
     };
     let size = told as usize;
-    let end = catalogue::units_end(size, start);
+    let end = catalogue_text::units_end(size, start);
     TextAt::TextTo(Text { size, start }, end)
 }
 

@@ -11,21 +11,21 @@ use borrow.Author.Tests.{ltb-true, eq-eqb}
 use lib.Dec.{ltb}
 use lib.ListN.{length, getD, take, drop, length-drop}
 use lib.Seq.{take-take, take-all, drop-drop, getD-take, getD-drop}
-use Rattle.wire_word.proofs.Below.{both-left, both-right, both-true}
+use Rattle.lists.proofs.Below.{both-left, both-right, both-true}
 use Rattle.catalogue.specs.Plain.{Row, catalogue}
 use Rattle.catalogue.specs.Places.{RowThere, rowSeen}
-use Rattle.bindings_column.specs.Each.{every}
-use Rattle.bindings_column.specs.Fit.{rowMost, fit}
+use Rattle.lists.specs.Every.{every}
+use Rattle.bindings.specs.Fit.{rowMost, fit}
 use Rattle.table.specs.Layout.{cursorSize, rowsSize, recordsAt, recordsSize, part}
 use Rattle.table.specs.Seat.{cursorHeld}
 use Rattle.table.proofs.Seats.{cursor-block}
 use Rattle.table.proofs.Tables.{part-length}
-use Rattle.bindings_column.proofs.Sound.{fit-sound}
+use Rattle.bindings.proofs.Sound.{fit-sound}
 use Rattle.refusal.specs.Refusal.{firstCause}
-use Rattle.fetch_request.specs.declared.Request.{Request}
-use Rattle.page_row.specs.Rows.{rowsAt}
-use Rattle.page_row.specs.Ready.{Words, There}
-use Rattle.page_fill.proofs.Steps.{rows-more}
+use Rattle.fetch.specs.declared.Request.{Request}
+use Rattle.page.specs.Rows.{rowsAt}
+use Rattle.page.specs.RowReady.{Words, There}
+use Rattle.page.proofs.FillSteps.{rows-more}
 use Rattle.fetch.specs.Fetch.{numbered, remaining, earlyCauses}
 use Rattle.fetch.specs.Ready.{rowsOf, Placed, FetchReady}
 

@@ -8,16 +8,16 @@ use native.Mathlib.Omega.{arith}
 use borrow.Author.Tests.{eqb-true, eqb-false}
 use lib.Dec.{eqb}
 use lib.ListN.{length, getD, set, drop}
-use Rattle.wire_word.proofs.Below.{by-test}
+use Rattle.lists.proofs.Below.{by-test}
 use Rattle.catalogue.specs.Plain.{Row, catalogue}
 use Rattle.table.specs.Seat.{Cursor, cursorBlock, cursorHeld}
 use Rattle.table.proofs.Writes.{moved-block}
 use Rattle.refusal.specs.Refusal.{firstCause}
 use Rattle.refusal.proofs.First.{first-stop, first-go, first-both, first-under}
-use Rattle.fetch_request.specs.declared.Request.{Request}
-use Rattle.page_write.specs.Page.{statusFor}
-use Rattle.page_write.proofs.Greatest.{returned-room}
-use Rattle.page_write.proofs.Reply.{bytes-length}
+use Rattle.fetch.specs.declared.Request.{Request}
+use Rattle.page.specs.Page.{statusFor}
+use Rattle.page.proofs.Greatest.{returned-room}
+use Rattle.page.proofs.Reply.{bytes-length}
 use Rattle.fetch.specs.Fetch.{remaining, firstUnfit, earlyCauses, fetchCauses, sent, rowsSent, thenLeft, fetchReply}
 use Rattle.fetch.specs.Ready.{rowsOf, FetchReady, Fetched}
 use Rattle.fetch.proofs.Facts.{bindings-fit}

@@ -7,14 +7,14 @@ use native.Mathlib.Omega.{arith}
 use borrow.Author.Tests.{eq-eqb, ne-eqb, lt-ltb, le-ltb, ltb-true, ltb-false}
 use lib.Dec.{ltb}
 use lib.ListN.{length, getD}
-use Rattle.wire_word.proofs.Below.{by-test}
+use Rattle.lists.proofs.Below.{by-test}
 use Rattle.catalogue.specs.Plain.{Row}
-use Rattle.bindings_column.proofs.Columns.{from-length}
+use Rattle.bindings.proofs.Columns.{from-length}
 use Rattle.table.specs.Layout.{recordsAt, recordsSize, part}
 use Rattle.table.specs.Seat.{Cursor, cursorHeld}
 use Rattle.refusal.specs.Refusal.{firstCause}
-use Rattle.fetch_request.specs.declared.Request.{Request}
-use Rattle.page_row.specs.Rows.{blocks}
+use Rattle.fetch.specs.declared.Request.{Request}
+use Rattle.page.specs.Rows.{blocks}
 use Rattle.fetch.specs.Fetch.{notServed, firstUnfit, earlyCauses}
 
 -- the causes that need no row, of a cursor by its words

@@ -1,3 +1,4 @@
+pub mod Ranges
 pub mod Facts
 pub mod Judging
 pub mod Sending

@@ -9,14 +9,14 @@ use Rattle.catalogue.specs.Places.{rowSeen}
 use Rattle.table.specs.Layout.{recordsAt, recordsSize, part}
 use Rattle.table.specs.Seat.{Cursor, cursorHeld}
 use Rattle.refusal.specs.Refusal.{firstCause}
-use Rattle.fetch_request.specs.Request.{Sound}
-use Rattle.fetch_request.specs.declared.Request.{Request}
-use Rattle.page_row.specs.Rows.{rowsAt, returned}
-use Rattle.page_write.specs.Page.{page, statusFor}
-use Rattle.page_write.specs.Reads.{rowIn}
-use Rattle.page_write.specs.Ready.{PageReady}
-use Rattle.page_write.proofs.Greatest.{returned-is, returned-room}
-use Rattle.page_write.proofs.Reply.{page-is}
+use Rattle.fetch.specs.Request.{Sound}
+use Rattle.fetch.specs.declared.Request.{Request}
+use Rattle.page.specs.Rows.{rowsAt, returned}
+use Rattle.page.specs.Page.{page, statusFor}
+use Rattle.page.specs.Reads.{rowIn}
+use Rattle.page.specs.PageReady.{PageReady}
+use Rattle.page.proofs.Greatest.{returned-is, returned-room}
+use Rattle.page.proofs.Reply.{page-is}
 use Rattle.fetch.specs.Fetch.{remaining, earlyCauses, sent, rowsSent, thenLeft, fetchReply}
 use Rattle.fetch.specs.Ready.{rowsOf, FetchReady}
 use Rattle.fetch.proofs.Facts.{count-is, count-most, position-most, all-rows, bindings-fit, words-ready}

@@ -1,2 +1,4 @@
+pub mod Request
+pub mod Asking
 pub mod Fetch
 pub mod Ready

@@ -10,9 +10,9 @@ use Rattle.catalogue.specs.Places.{RowThere, rowSeen}
 use Rattle.table.specs.Seat.{cursorBlock, cursorHeld}
 use Rattle.table.specs.Well.{cursorBelow}
 use Rattle.table.specs.Fits.{CursorFits}
-use Rattle.fetch_request.specs.declared.Request.{Request}
-use Rattle.fetch_request.specs.Request.{Sound}
-use Rattle.page_write.specs.Reads.{rowIn}
+use Rattle.fetch.specs.declared.Request.{Request}
+use Rattle.fetch.specs.Request.{Sound}
+use Rattle.page.specs.Reads.{rowIn}
 use Rattle.refusal.specs.Refusal.{firstCause}
 use Rattle.fetch.specs.Fetch.{fetchCauses, fetchReply, fetched}
 

@@ -7,8 +7,8 @@ ghost use Rattle.table.specs.Seat.{cursorHeld};
 ghost use Rattle.refusal.specs.Refusal.{firstCause};
 ghost use Rattle.fetch.specs.Fetch.{notServed, firstUnfit, remaining, earlyCauses};
 ghost use Rattle.fetch.specs.Ready.{rowsOf, FetchReady};
-use fetch_request::Request;
-use page_row::Row;
+use fetch::Request;
+use page::Row;
 
 // A request that refusal 13 names.
 fn not_served(q: Request) -> bool

@@ -2,8 +2,10 @@
 ghost use mathlib.Core.Path.{_≡_};
 ghost use Prim.Native.Nat.{_≤_};
 ghost use lib.ListN.{length};
-ghost use Rattle.fetch_request.specs.Request.{leastSize, inRange, seekFits, asked, request};
-ghost use Rattle.fetch_request.specs.Asking.{asking};
+ghost use Rattle.fetch.specs.Request.{leastSize, inRange, seekFits, asked, request};
+ghost use Rattle.fetch.specs.Asking.{asking};
+use fetch::Asking;
+use fetch::Request;
 
 const HANDLE_AT: usize = 16;
 
@@ -32,27 +34,6 @@ const LEAST_SIZE: usize = 56;
 const NEXT_SIZE: usize = 60;
 
 const NEXT: u32 = 1;
-
-// What a request asks for: the cursor, how many rows of which width, the place of the first row, the reply's size, the client's
-// base, and the seek.
-pub struct Request {
-    pub handle: u32,
-    pub asked: u32,
-    pub width: u32,
-    pub from: u32,
-    pub size: u32,
-    pub base: u32,
-    pub backward: u32,
-    pub seek: u32,
-    pub chapter: u32,
-    pub skip: u32,
-}
-
-// A request, or a body that refusal 9 names.
-pub enum Asking {
-    Asked(Request),
-    Malformed,
-}
 
 // The numbers that have limits, apart from the seek.
 fn in_range(reserved: u32, size: u32, base: u32, backward: u32) -> bool

@@ -7,7 +7,7 @@ ghost use Rattle.table.specs.Seat.{cursorHeld};
 ghost use Rattle.refusal.specs.Refusal.{firstCause};
 ghost use Rattle.fetch.specs.Fetch.{earlyCauses, sent, fetchReply};
 ghost use Rattle.fetch.specs.Ready.{rowsOf, FetchReady, Fetched};
-use fetch_request::Request;
+use fetch::Request;
 
 // The reply with the rows that remain, as many as are asked for and fit: their count.
 fn send(block: &[u32], q: Request, s: &[u8], places: &[u32], reply: &mut [u8]) -> usize

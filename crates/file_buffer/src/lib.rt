@@ -2,21 +2,12 @@
 ghost use mathlib.Core.Path.{_≡_};
 ghost use Prim.Native.Nat.{_≤_};
 ghost use lib.ListN.{length};
-ghost use Rattle.line_call.specs.Line.{Fits};
-ghost use Rattle.file_buffer.specs.Kept.{Kept, keptCall};
-ghost use Rattle.file_buffer.specs.Room.{Stands, waits};
-use line_call::Call;
-use line_call::Reason;
-
-// Where the program stands: the number of the present line, how many of its bytes are kept and whether there were more, the
-// length of the lent catalogue, and how much of the output waits to be written.
-pub struct Place {
-    pub number: u64,
-    pub kept: usize,
-    pub cut: bool,
-    pub catalogue: usize,
-    pub used: usize,
-}
+ghost use Rattle.line.specs.Line.{Fits};
+ghost use Rattle.line.specs.Kept.{Kept, keptCall};
+ghost use Rattle.line.specs.LineRoom.{Stands, waits};
+use line::Call;
+use line::Place;
+use line::Reason;
 
 // Keeps the bytes of a part of a line, as far as there is room.
 pub fn keep(line: &mut [u8], place: Place, part: &[u8]) -> Place

@@ -1,12 +1,12 @@
 // One call of a calls file: it is served, and the answer is laid in the output.
 ghost use Prim.Native.Nat.{_+_, _/_, _<_, _≤_};
 ghost use lib.ListN.{length};
-ghost use Rattle.line_word.specs.Digits.{hexBytes};
-ghost use Rattle.line_call.specs.Line.{bytesMost, catalogueMost, indexMost, roomMost, Fits};
+ghost use Rattle.line.specs.Digits.{hexBytes};
+ghost use Rattle.line.specs.Line.{bytesMost, catalogueMost, indexMost, roomMost, Fits};
 ghost use Rattle.call.specs.Step.{sourcesOf, messageStep, openStep};
-ghost use Rattle.file_serve.specs.Room.{answerMost};
-ghost use Rattle.file_serve.specs.Served.{opened, replied, answerTo, Serves, lentOf, lentBy, Lends};
-use line_call::Call;
+ghost use Rattle.file.specs.Room.{answerMost};
+ghost use Rattle.file.specs.Served.{opened, replied, answerTo, Serves, lentOf, lentBy, Lends};
+use line::Call;
 
 // The catalogue that is lent from this line on. Answers its length.
 pub fn lend(call: Call, line: &[u8], catalogue: &mut [u8], lent: usize) -> usize
@@ -38,7 +38,7 @@ fn reply(
     ensures { λ r. ⌜ Serves (replied (messageStep (sourcesOf (now (catalogue .entry))) (now (table .entry)) seat (now (bytes .entry)) (length (now (space .entry))))) used r (now (table .exit)) (now (out .entry)) (now (out .exit)) ⌝ }
 {
     line_text::fill(space);
-    let answered = call_message::message(table, catalogue, call::Seat(seat), bytes, space);
+    let answered = call_message::message(table, catalogue, table::Seat(seat), bytes, space);
     let refusal = answered.refusal;
     let count = answered.count;
     line_answer::put_message(out, used, refusal, space, count as usize)
@@ -85,7 +85,7 @@ fn open(
 {
     let mut bytes = [0u8; 20000];
     let size = line_answer::load(digits, &mut bytes);
-    let opened = call_open::open(table, catalogue, call::Seat(seat), &bytes[0..size]);
+    let opened = call_open::open(table, catalogue, table::Seat(seat), &bytes[0..size]);
     let refusal = opened.refusal;
     let handle = opened.handle;
     let number = handle.0;
@@ -110,7 +110,7 @@ pub fn serve(
         Call::Fault(reason) => line_answer::put_error(out, used, number, reason),
         Call::Catalogue(_, _) => used,
         Call::Connect(seat, version) => {
-            let refusal = call_connect::connect(table, catalogue, call::Seat(seat), version);
+            let refusal = call_connect::connect(table, catalogue, table::Seat(seat), version);
             line_answer::put_connect(out, used, refusal)
         }
         Call::Open(seat, first, last) => open(

@@ -1,9 +1,9 @@
 // A file of recorded calls is read in chunks, each call is served, and the answers are written a buffer at a time.
 ghost use lib.ListN.{length};
-ghost use Rattle.file_serve.specs.Room.{Sized};
-ghost use Rattle.file_serve.specs.Served.{LineServed};
-ghost use Rattle.file_buffer.specs.Room.{Stands};
-use file_buffer::Place;
+ghost use Rattle.file.specs.Room.{Sized};
+ghost use Rattle.file.specs.Served.{LineServed};
+ghost use Rattle.line.specs.LineRoom.{Stands};
+use line::Place;
 
 mod answers; // answers.rt: one call, served, and its answer
 

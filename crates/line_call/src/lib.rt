@@ -2,50 +2,16 @@
 ghost use mathlib.Core.Path.{_≡_};
 ghost use Prim.Native.Nat.{_≤_};
 ghost use lib.ListN.{length};
-ghost use Rattle.line_call.specs.Line.{numberWord, hexWord, whole, catalogueFrom, connectFrom, openFrom, messageFrom, roomFrom, wordFrom, callOf, numberEnds, hexEnds, Fits};
-use line_word::Spelled;
-
-// Why a line is no call.
-pub enum Reason {
-    UnknownCall,
-    MissingWord,
-    ExtraWord,
-    BadNumber,
-    BadHex,
-    TooLong,
-    NoSuchWord,
-}
-
-// What a line is. Bytes are told by the places of their hex digits in the line, from the first to the one after the last.
-pub enum Call {
-    Nothing,
-    Fault(Reason),
-    Catalogue(usize, usize),
-    Connect(u32, u32),
-    Open(u32, usize, usize),
-    Message(u32, u32, usize, usize),
-    Word(u32, u32),
-}
-
-// A number word and the place after it.
-enum Number {
-    Is(u32, usize),
-    Fault(Reason),
-}
-
-// The places of the hex digits of a word, and the place after it.
-enum Hex {
-    Is(usize, usize, usize),
-    Fault(Reason),
-}
-
-pub const CATALOGUE_MOST: usize = 32768;
-
-pub const BYTES_MOST: usize = 20000;
-
-pub const ROOM_MOST: u32 = 20000;
-
-pub const INDEX_MOST: u32 = 17199;
+ghost use Rattle.line.specs.Line.{numberWord, hexWord, whole, catalogueFrom, connectFrom, openFrom, messageFrom, roomFrom, wordFrom, callOf, numberEnds, hexEnds, Fits};
+use line::BYTES_MOST;
+use line::CATALOGUE_MOST;
+use line::Call;
+use line::Hex;
+use line::INDEX_MOST;
+use line::Number;
+use line::ROOM_MOST;
+use line::Reason;
+use line::Spelled;
 
 // The number word from a place on.
 fn number_word(s: &[u8], at: usize) -> Number

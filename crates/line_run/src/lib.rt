@@ -2,7 +2,7 @@
 ghost use mathlib.Core.Path.{_≡_};
 ghost use Prim.Native.Nat.{_+_, _≤_};
 ghost use lib.ListN.{length, drop};
-ghost use Rattle.line_run.specs.Runs.{run, separates, inWord, inLine, inCall, sameBytes};
+ghost use Rattle.line.specs.Runs.{run, separates, inWord, inLine, inCall, sameBytes};
 
 const FEED: u8 = 10;
 

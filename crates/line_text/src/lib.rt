@@ -3,7 +3,7 @@
 ghost use mathlib.Core.Path.{_≡_};
 ghost use Prim.Native.Nat.{_+_, _*_, _≤_, _<_};
 ghost use lib.ListN.{length, take, drop, replicate};
-ghost use Rattle.line_text.specs.Text.{Put, decimalText, glyph, hexPairs, hexText, fillByte, changed};
+ghost use Rattle.line.specs.Text.{Put, decimalText, glyph, hexPairs, hexText, fillByte, changed};
 
 // A text.
 pub fn put(out: &mut [u8], at: usize, text: &[u8]) -> usize

@@ -3,12 +3,8 @@ ghost use mathlib.Core.Path.{_≡_};
 ghost use mathlib.Core.List.{_++_};
 ghost use Prim.Native.Nat.{_/_, _≤_};
 ghost use lib.ListN.{length, drop};
-ghost use Rattle.line_word.specs.Digits.{decimal, told, hexDigit, isDash, isHex, pairByte, hexBytes};
-
-pub enum Spelled {
-    Is(u32),
-    Bad,
-}
+ghost use Rattle.line.specs.Digits.{decimal, told, hexDigit, isDash, isHex, pairByte, hexBytes};
+use line::Spelled;
 
 const MOST: u64 = 4294967295;
 

@@ -7,9 +7,9 @@ use native.Mathlib.Nat.{zero-add}
 use native.Mathlib.Omega.{arith}
 use borrow.Author.Tests.{ne-eqb}
 use lib.ListN.{length, getD, drop}
-use Rattle.wire_word.specs.Word.{le}
+use Rattle.wire.specs.Word.{le}
 use Rattle.catalogue.specs.Plain.{Row}
-use Rattle.wire_lay.specs.Laid.{lay, fourWords}
+use Rattle.wire.specs.Laid.{lay, fourWords}
 use Rattle.table.specs.Layout.{connectedAt}
 use Rattle.table.specs.Seat.{Seat, seatBlock, seatIn, seatOf}
 use Rattle.table.specs.Fits.{CursorOk, SeatOk}

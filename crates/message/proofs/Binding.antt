@@ -8,27 +8,28 @@ use native.Mathlib.Omega.{arith}
 use lib.Dec.{leb, eqb}
 use lib.ListN.{length, take, drop, set}
 use lib.Seq.{take-at, drop-at, take-all}
-use Rattle.wire_word.specs.Below.{pick}
-use Rattle.wire_word.specs.Word.{numberAt, le}
-use Rattle.wire_word.proofs.Below.{by-test, true≢false}
-use Rattle.wire_word.proofs.Options.{none≢some, some-is}
+use Rattle.lists.specs.Below.{pick}
+use Rattle.wire.specs.Word.{numberAt, le}
+use Rattle.lists.proofs.Below.{by-test, true≢false}
+use Rattle.lists.proofs.Options.{none≢some, some-is}
 use Rattle.catalogue.specs.Plain.{Row}
-use Rattle.bindings_column.specs.Column.{wordsOf}
-use Rattle.bindings_column.specs.Fit.{fit}
-use Rattle.bindings_column.specs.declared.Column.{Column}
-use Rattle.bindings_read.specs.Bindings.{Bindings, columnsOn, withColumns, bindingsOn, handleAt, widthAt, describedAt, countAt, columnsAt}
-use Rattle.bindings_read.specs.Plain.{bindings}
-use Rattle.bindings_read.specs.Told.{answer, wordsRead, Told}
-use Rattle.bindings_read.specs.declared.BindingsRead.{BindingsRead}
-use Rattle.bindings_read.proofs.Agree.{bindings-agree}
-use Rattle.wire_lay.specs.Laid.{lay, fourWords}
+use Rattle.bindings.specs.Column.{wordsOf}
+use Rattle.bindings.specs.Fit.{fit}
+use Rattle.bindings.specs.declared.Column.{Column}
+use Rattle.bindings.specs.Bindings.{Bindings, columnsOn, withColumns, bindingsOn, handleAt, widthAt, describedAt, countAt, columnsAt}
+use Rattle.bindings.specs.Plain.{bindings}
+use Rattle.bindings.specs.Told.{answer, wordsRead, Told}
+use Rattle.bindings.specs.declared.BindingsRead.{BindingsRead}
+use Rattle.bindings.proofs.Agree.{bindings-agree}
+use Rattle.wire.specs.Laid.{lay, fourWords}
 use Rattle.table.specs.Layout.{cursorSize, cursorPlace, part, put}
 use Rattle.table.specs.Seat.{Cursor, Seat, cursorBlock, seatBlock, seatIn, seatOf, cursorIn, rebound}
 use Rattle.table.specs.Fits.{CursorOk}
 use Rattle.table.proofs.Seats.{cursor-block}
 use Rattle.table.proofs.Writes.{rebound-block}
 use Rattle.refusal.specs.Refusal.{firstCause}
-use Rattle.message.specs.Message.{handleOf, isOpen, bodyCauses, boundTo, reboundAt, doneOn, seatMessage}
+use Rattle.message.specs.Message.{handleOf, bodyCauses, boundTo, reboundAt, doneOn, seatMessage}
+use Rattle.table.specs.Open.{isOpen}
 use Rattle.message.specs.Answers.{Admitted, Answers}
 use Rattle.message.proofs.Answering.{lay-front, seat-is, seat-fits, body-done}
 use Rattle.message.proofs.Bodies.{put-handle}

@@ -8,18 +8,19 @@ use borrow.Author.Tests.{eq-eqb, ne-eqb}
 use lib.Dec.{eqb}
 use lib.ListN.{length, drop}
 use lib.Seq.{take-at, drop-append-add, drop-drop}
-use Rattle.wire_word.specs.Word.{le}
-use Rattle.wire_word.proofs.Below.{by-test}
-use Rattle.wire_word.proofs.Options.{some-is}
+use Rattle.wire.specs.Word.{le}
+use Rattle.lists.proofs.Below.{by-test}
+use Rattle.lists.proofs.Options.{some-is}
 use Rattle.catalogue.specs.Plain.{Row}
-use Rattle.wire_lay.specs.Laid.{lay, fourWords}
+use Rattle.wire.specs.Laid.{lay, fourWords}
 use Rattle.table.specs.Layout.{cursorSize, cursorPlace, put}
 use Rattle.table.specs.Seat.{Cursor, Seat, zeros, cursorBlock, seatBlock, seatIn, seatOf, cursorIn, withCursor}
 use Rattle.table.specs.Fits.{CursorOk, SeatOk}
 use Rattle.table.proofs.Seats.{cursor-block, seat-block}
 use Rattle.table.proofs.Writes.{first-put, second-put}
 use Rattle.refusal.specs.Refusal.{firstCause}
-use Rattle.message.specs.Message.{handleOf, isOpen, stillOpen, freed, bodyCauses, doneOn, seatMessage}
+use Rattle.message.specs.Message.{handleOf, freed, bodyCauses, doneOn, seatMessage}
+use Rattle.table.specs.Open.{isOpen, stillOpen}
 use Rattle.message.specs.Answers.{Admitted, Answers}
 use Rattle.message.proofs.Answering.{lay-front, seat-is, seat-fits, body-done}
 

@@ -8,10 +8,10 @@ use native.Mathlib.Omega.{arith}
 use borrow.Author.Tests.{eq-eqb, ne-eqb, lt-ltb, le-ltb, ltb-true, ltb-false, le-leb, lt-leb}
 use lib.Dec.{ltb, eqb}
 use lib.ListN.{length, getD}
-use Rattle.wire_word.specs.Below.{pick}
-use Rattle.wire_word.specs.Word.{numberAt}
-use Rattle.wire_checksum.specs.Checksum.{checksum, checksumTold}
-use Rattle.wire_word.proofs.Below.{by-test}
+use Rattle.lists.specs.Below.{pick}
+use Rattle.wire.specs.Word.{numberAt}
+use Rattle.wire.specs.Checksum.{checksum, checksumTold}
+use Rattle.lists.proofs.Below.{by-test}
 use Rattle.table.specs.Seat.{Seat, seatOf}
 use Rattle.refusal.specs.Refusal.{firstCause}
 use Rattle.message.specs.Message.{messageTable, kinds, kindFrom, kindOf, served, tested, msgOf, checksumWrong, gateCauses}

@@ -7,28 +7,29 @@ use Prim.Native.Nat.{ℕ, _+_, _-_, _≤_, _<_}
 use native.Mathlib.Omega.{arith}
 use lib.Dec.{eqb}
 use lib.ListN.{length, take, drop, take-append-drop}
-use Rattle.wire_word.proofs.Below.{by-test, both-left, both-right}
-use Rattle.wire_word.proofs.Options.{none≢some, some-is}
+use Rattle.lists.proofs.Below.{by-test, both-left, both-right}
+use Rattle.lists.proofs.Options.{none≢some, some-is}
 use Rattle.catalogue.specs.Plain.{catalogue}
-use Rattle.wire_lay.specs.Laid.{lay, fourWords}
+use Rattle.wire.specs.Laid.{lay, fourWords}
 use Rattle.table.specs.Layout.{cursorSize, cursorPlace, part, put}
 use Rattle.table.specs.Seat.{Cursor, Seat, cursorBlock, cursorHeld, seatIn, seatOf, cursorIn}
 use Rattle.table.specs.Well.{cursorBelow, seatBelow}
 use Rattle.table.specs.Fits.{CursorFits, CursorOk}
 use Rattle.table.proofs.Seats.{cursor-block}
 use Rattle.table.proofs.Judging.{part-is}
-use Rattle.fetch_request.specs.Request.{request}
-use Rattle.fetch_request.specs.declared.Request.{Request}
-use Rattle.fetch_request.proofs.Ranges.{request-sound, request-handle}
+use Rattle.fetch.specs.Request.{request}
+use Rattle.fetch.specs.declared.Request.{Request}
+use Rattle.fetch.proofs.Ranges.{request-sound, request-handle}
 use Rattle.fetch.specs.Fetch.{fetchCauses, fetchReply, fetched}
 use Rattle.fetch.specs.Ready.{rowsOf, FetchReady, Fetched}
 use Rattle.fetch.proofs.Fetching.{reply-length, fetch-small}
 use Rattle.refusal.specs.Refusal.{firstCause, statusOf}
-use Rattle.message.specs.Message.{handleOf, isOpen, bodyCauses, rowsDone, refusedOn, seatMessage}
+use Rattle.message.specs.Message.{handleOf, bodyCauses, rowsDone, refusedOn, seatMessage}
+use Rattle.table.specs.Open.{isOpen}
 use Rattle.message.specs.Answers.{Admitted, Sourced, Answers}
 use Rattle.message.specs.declared.Answered.{Answered}
 use Rattle.message.proofs.Answering.{held, block-is, seat-is, seat-fits, refused-answers, body-refused, body-done}
-use Rattle.message.proofs.Handles.{place-inside, put-is}
+use Rattle.table.proofs.Handles.{place-inside, put-is}
 use Rattle.message.proofs.Bodies.{put-handle}
 use Rattle.message.proofs.Binding.{open-some, part-handle}
 

@@ -6,21 +6,22 @@ use mathlib.Core.Option.{Option, none, some}
 use Prim.Native.Nat.{ℕ, zero, suc, _+_, _*_}
 use lib.Dec.{leb, ltb, eqb}
 use lib.ListN.{length, getD, set}
-use Rattle.wire_word.specs.Below.{pick, both}
-use Rattle.wire_word.specs.Word.{numberAt, le}
-use Rattle.wire_checksum.specs.Checksum.{checksum}
+use Rattle.lists.specs.Below.{pick, both}
+use Rattle.wire.specs.Word.{numberAt, le}
+use Rattle.wire.specs.Checksum.{checksum}
 use Rattle.catalogue.specs.Plain.{Row}
-use Rattle.bindings_column.specs.Fit.{fit}
-use Rattle.bindings_read.specs.Bindings.{Bindings}
-use Rattle.bindings_read.specs.Plain.{bindings}
-use Rattle.wire_lay.specs.Laid.{fourWords}
+use Rattle.bindings.specs.Fit.{fit}
+use Rattle.bindings.specs.Bindings.{Bindings}
+use Rattle.bindings.specs.Plain.{bindings}
+use Rattle.wire.specs.Laid.{fourWords}
 use Rattle.table.specs.Layout.{cursorSize, cursorPlace, columnsAt, widthAt, recordsAt, recordsSize, part, put}
 use Rattle.table.specs.Seat.{Cursor, Seat, cursorIn, withCursor, rebound}
 use Rattle.refusal.specs.Refusal.{firstCause, statusOf}
-use Rattle.fetch_request.specs.Request.{request}
-use Rattle.fetch_request.specs.Asking.{asking, refusalOf}
-use Rattle.fetch_request.specs.declared.Request.{Request}
+use Rattle.fetch.specs.Request.{request}
+use Rattle.fetch.specs.Asking.{asking, refusalOf}
+use Rattle.fetch.specs.declared.Request.{Request}
 use Rattle.fetch.specs.Fetch.{fetchCauses, fetchReply, fetched}
+use Rattle.table.specs.Open.{isOpen, stillOpen}
 
 -- the messages served, each its number and whether its checksum is tested: "disconnect 0xC9, free cursor 0xCB, get rows 0xCC,
 -- set bindings 0xD0", "the checksum of get rows and set bindings is tested (..); other messages are not"
@@ -54,11 +55,6 @@ handleOf m = numberAt 4 m 16
 -- "For a client version of 8 or above the checksum .. is tested"
 abbrev pub checksumWrong : ℕ → ℕ → List ℕ → Bool
 checksumWrong version kind m = both (both (leb 8 version) (tested kind)) (not (eqb (numberAt 4 m 8) (checksum m)))
-
--- whether there is a cursor under a handle
-abbrev pub isOpen : Option Cursor → Bool
-isOpen none = false
-isOpen (some c) = true
 
 -- "handle not open on this seat"
 abbrev pub notOpen : Seat → List ℕ → ℕ × Bool
@@ -115,14 +111,6 @@ pub record SeatOutcome : Type 0 where
 -- "From 6 on .. the reply is 16 bytes: _msg, the status, zero, zero. No refusal changes the table."
 abbrev pub refusedOn : ℕ → Option Seat → List ℕ → SeatOutcome
 refusedOn n held m = record { refusal = n; reply = fourWords (msgOf m) (statusOf n) 0 0; after = held }
-
-abbrev pub openCount : Option Cursor → ℕ
-openCount none = 0
-openCount (some c) = 1
-
--- "the seat's count of cursors still open"
-abbrev pub stillOpen : Seat → ℕ
-stillOpen s = openCount (s .first) + openCount (s .second)
 
 -- a seat without the cursor that the message names
 abbrev pub freed : Seat → List ℕ → Seat

@@ -1,4 +1,4 @@
-// What a message does to its seat: the definitions, and the laws of each kind.
+// What a message does to its seat. Definitions and laws, no code.
 
 // The answer to a message: the refusal number, else 0, and the count of reply bytes.
 pub struct Answered {

@@ -7,7 +7,7 @@ ghost use Rattle.table.specs.Seat.{seatOf};
 ghost use Rattle.message.specs.Message.{seatMessage, reboundAt};
 ghost use Rattle.fetch.specs.Ready.{rowsOf};
 ghost use Rattle.message.specs.Answers.{Given, Admitted, Sourced, Answers, AnswersAny};
-use fetch_request::Asking;
+use fetch::Asking;
 use message::Answered;
 
 // Sets the bindings of the cursor of a handle.

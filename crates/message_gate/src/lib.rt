@@ -2,7 +2,7 @@
 ghost use mathlib.Core.Path.{_≡_};
 ghost use Prim.Native.Nat.{_≤_, _<_};
 ghost use lib.ListN.{length};
-ghost use Rattle.wire_lay.specs.Laid.{lay, fourWords};
+ghost use Rattle.wire.specs.Laid.{lay, fourWords};
 ghost use Rattle.table.specs.Layout.{seatSize};
 ghost use Rattle.table.specs.Seat.{seatOf};
 ghost use Rattle.refusal.specs.Refusal.{firstCause, statusOf};
@@ -64,7 +64,7 @@ pub fn refuse(reply: &mut [u8], msg: u32, refusal: u32) -> Answered
     requires { ⌜ (16 ≤ length (now reply)) × (refusal < 17) ⌝ }
     ensures { λ r. ⌜ (r ≡ record { refusal = refusal; count = 16 }) × (now (reply .exit) ≡ lay (now (reply .entry)) 0 (fourWords msg (statusOf refusal) 0 0)) ⌝ }
 {
-    let sent = refusal::status(refusal);
+    let sent = message_status::status(refusal);
     wire_lay_header::lay_header(reply, msg, sent);
     Answered { refusal, count: 16 }
 }

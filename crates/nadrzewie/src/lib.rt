@@ -2,7 +2,7 @@
 ghost use mathlib.Core.Path.{_≡_};
 ghost use mathlib.Core.List.{[]};
 ghost use lib.ListN.{length};
-ghost use Rattle.wire_checksum.specs.Checksum.{checksumTold};
+ghost use Rattle.wire.specs.Checksum.{checksumTold};
 ghost use Rattle.catalogue.specs.Plain.{catalogue, refusalOf};
 ghost use Rattle.call.specs.Step.{sourcesOf, connectStep, openStep, messageStep, Keeps};
 
@@ -59,7 +59,7 @@ pub extern "C" fn nadrzewie_connect(
 ) -> u32
     ensures { λ r. ⌜ Keeps (connectStep (sourcesOf (now (catalogue .entry))) (now (table .entry)) (seat .number) version) r 0 0 (now (table .exit)) [] [] ⌝ }
 {
-    call_connect::connect(table, catalogue, call::Seat(seat.number), version)
+    call_connect::connect(table, catalogue, table::Seat(seat.number), version)
 }
 
 // Opens a query on a seat: the rows that the tree selects.
@@ -72,7 +72,7 @@ pub extern "C" fn nadrzewie_open(
 ) -> Opened
     ensures { λ r. ⌜ Keeps (openStep (sourcesOf (now (catalogue .entry))) (now (table .entry)) (seat .number) (now (tree .entry))) (r .refusal) (r .handle .number) 0 (now (table .exit)) [] [] ⌝ }
 {
-    let opened = call_open::open(table, catalogue, call::Seat(seat.number), tree);
+    let opened = call_open::open(table, catalogue, table::Seat(seat.number), tree);
     let refusal = opened.refusal;
     let number = opened.handle.0;
     Opened {
@@ -92,7 +92,13 @@ pub extern "C" fn nadrzewie_message(
 ) -> Answered
     ensures { λ r. ⌜ Keeps (messageStep (sourcesOf (now (catalogue .entry))) (now (table .entry)) (seat .number) (now (message .entry)) (length (now (reply .entry)))) (r .refusal) 0 (r .count) (now (table .exit)) (now (reply .entry)) (now (reply .exit)) ⌝ }
 {
-    let answered = call_message::message(table, catalogue, call::Seat(seat.number), message, reply);
+    let answered = call_message::message(
+        table,
+        catalogue,
+        table::Seat(seat.number),
+        message,
+        reply,
+    );
     let refusal = answered.refusal;
     let count = answered.count;
     Answered { refusal, count }

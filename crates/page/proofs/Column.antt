@@ -3,14 +3,14 @@ use mathlib.Core.Path.{_≡_, ap, _∙_}
 use mathlib.Core.List.{List, [], _∷_}
 use Prim.Native.Nat.{ℕ, _+_, _^_, _<_}
 use lib.ListN.{length}
-use Rattle.wire_word.specs.Below.{pick}
-use Rattle.wire_word.specs.Word.{le}
+use Rattle.lists.specs.Below.{pick}
+use Rattle.wire.specs.Word.{le}
 use Rattle.catalogue.specs.Places.{rowOf}
 use Rattle.catalogue.specs.declared.Fields.{Fields}
-use Rattle.bindings_column.specs.Property.{lengthSize}
-use Rattle.bindings_column.specs.Fit.{isUsed}
-use Rattle.bindings_column.specs.declared.Column.{Column}
-use Rattle.wire_lay.specs.Laid.{lays}
+use Rattle.wire.specs.Property.{lengthSize}
+use Rattle.bindings.specs.Fit.{isUsed}
+use Rattle.bindings.specs.declared.Column.{Column}
+use Rattle.wire.specs.Laid.{lays}
 use Rattle.page.specs.Field.{fieldOf, fieldAt, fieldSeen}
 use Rattle.page.specs.Cell.{statusOf, lengthOf, kindOf, contentOf, cellBytes, cellOf, offsetWidth, laidIf, blockSpan, blockSize, blockRoom, fieldSpans, columnSpans}
 use Rattle.page.specs.Stands.{FieldsStand, FieldStands}

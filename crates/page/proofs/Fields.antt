@@ -6,9 +6,9 @@ use native.Mathlib.Omega.{arith}
 use borrow.Author.Tests.{eqb-false, eq-eqb, ne-eqb}
 use lib.Dec.{eqb}
 use lib.ListN.{replicate}
-use Rattle.wire_word.specs.Below.{pick, both}
-use Rattle.wire_word.specs.Word.{le, halves}
-use Rattle.wire_word.proofs.Below.{by-test}
+use Rattle.lists.specs.Below.{pick, both}
+use Rattle.wire.specs.Word.{le, halves}
+use Rattle.lists.proofs.Below.{by-test}
 use Rattle.catalogue.specs.Limits.{sizeMost}
 use Rattle.catalogue.specs.Places.{unitsPart, textOf, rowOf, rowAt, rowSeen, withRow}
 use Rattle.catalogue.specs.declared.Text.{Text}
@@ -16,14 +16,15 @@ use Rattle.catalogue.specs.declared.Fields.{Fields}
 use Rattle.catalogue.specs.declared.RowAt.{RowAt}
 use Rattle.catalogue.specs.declared.RowAt.the-variants.{RowTo, NoRow}
 use Rattle.catalogue.proofs.RowLaws.{row-read, TextRead}
-use Rattle.bindings_column.specs.Property.{isNumber, variantType, variantSize, numberType, numberSize, cellSize}
-use Rattle.bindings_column.specs.Fit.{isUsed}
-use Rattle.bindings_column.specs.declared.Column.{Column}
-use Rattle.wire_lay.specs.Laid.{lay, lays, Laid}
-use Rattle.wire_lay.proofs.Lays.{lays-join}
+use Rattle.wire.specs.Property.{isNumber, variantType, variantSize, numberType, numberSize, cellSize}
+use Rattle.bindings.specs.Fit.{isUsed}
+use Rattle.bindings.specs.declared.Column.{Column}
+use Rattle.wire.specs.Laid.{lay, lays, Laid}
+use Rattle.wire.proofs.Lays.{lays-join}
 use Rattle.page.specs.Field.{Field, number, textField, byProperty, fieldOf, textFieldAt, fieldAt, fieldSeen}
 use Rattle.page.specs.Cell.{variant, variantOf, kindOf, contentOf, cellOf, cellBytes, textType, offsetWidth, laidIf, blockSpan, blockSize, textSize}
-use Rattle.page.specs.Stands.{TextStands, FieldsStand, FieldStands, noFields, fieldsSeen, FieldSmall, FieldsSmall, ColumnIn}
+use Rattle.page.specs.Stands.{TextStands, FieldsStand, FieldStands, FieldSmall, FieldsSmall, ColumnIn}
+use Rattle.catalogue.specs.Seen.{noFields, fieldsSeen}
 use Rattle.page.specs.declared.FieldAt.{FieldAt}
 use Rattle.page.specs.declared.FieldAt.the-variants.{NumberIs, TextIs, Absent}
 use Rattle.page.proofs.Little.{le-more}

@@ -5,7 +5,7 @@ use Prim.Native.Nat.{ℕ, zero, suc, _+_, _/_, _%_, _^_, _<_}
 use native.Mathlib.Nat.{pow-suc, div-lt-iff-lt-mul, suc-add, zero-add}
 use native.Mathlib.Omega.{arith}
 use lib.ListN.{replicate}
-use Rattle.wire_word.specs.Word.{le}
+use Rattle.wire.specs.Word.{le}
 
 le-nothing : (n : ℕ) → le n 0 ≡ replicate n 0
 unfolding le

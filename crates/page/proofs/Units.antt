@@ -7,15 +7,15 @@ use lib.ListN.{length, take, drop, length-take, length-drop, length-append, List
 use lib.Seq.{getD-take, getD-drop, length-take-le}
 use borrow.Author.Tests.{ltb-true, ltb-false}
 use lib.Dec.{ltb}
-use Rattle.wire_word.specs.Word.{Bytes, halves, le}
-use Rattle.wire_word.proofs.Below.{by-test}
-use Rattle.wire_word.proofs.Halves.{halves-length}
+use Rattle.wire.specs.Word.{Bytes, halves, le}
+use Rattle.lists.proofs.Below.{by-test}
+use Rattle.wire.proofs.Halves.{halves-length}
 use Rattle.catalogue.specs.Writer.{unitBytes}
 use Rattle.catalogue.specs.Places.{unitBytesOf, unitsPart}
 use Rattle.catalogue.specs.declared.Text.{Text}
 use Rattle.catalogue.proofs.RoundTrip.{written-halves}
-use Rattle.wire_lay.specs.Laid.{lay}
-use Rattle.wire_lay.proofs.Lay.{lay-join}
+use Rattle.wire.specs.Laid.{lay}
+use Rattle.wire.proofs.Lay.{lay-join}
 use Rattle.page.specs.Cell.{blockOf, textSize}
 use Rattle.page.specs.Stands.{TextStands}
 

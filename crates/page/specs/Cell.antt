@@ -3,14 +3,14 @@ use mathlib.Core.List.{List, [], _∷_, _++_}
 use Prim.Native.Nat.{ℕ, _+_, _-_, _*_}
 use lib.Dec.{eqb}
 use lib.ListN.{length, replicate}
-use Rattle.wire_word.specs.Below.{pick}
-use Rattle.wire_word.specs.Word.{le}
+use Rattle.lists.specs.Below.{pick}
+use Rattle.wire.specs.Word.{le}
 use Rattle.catalogue.specs.Plain.{Row}
 use Rattle.catalogue.specs.Writer.{unitBytes}
-use Rattle.bindings_column.specs.Property.{variantType, variantSize, numberType, numberSize, lengthSize}
-use Rattle.bindings_column.specs.Fit.{isUsed}
-use Rattle.bindings_column.specs.declared.Column.{Column}
-use Rattle.wire_lay.specs.Laid.{Laid}
+use Rattle.wire.specs.Property.{variantType, variantSize, numberType, numberSize, lengthSize}
+use Rattle.bindings.specs.Fit.{isUsed}
+use Rattle.bindings.specs.declared.Column.{Column}
+use Rattle.wire.specs.Laid.{Laid}
 use Rattle.page.specs.Field.{Field, number, text, absent, fieldOf}
 
 -- "Status byte: 0 present, 2 absent"

@@ -3,13 +3,13 @@ use mathlib.Core.List.{List}
 use mathlib.Core.Option.{Option, none, some}
 use Prim.Native.Nat.{ℕ}
 use lib.Dec.{eqb}
-use Rattle.wire_word.specs.Below.{pick}
-use Rattle.wire_word.specs.Word.{halves}
+use Rattle.lists.specs.Below.{pick}
+use Rattle.wire.specs.Word.{halves}
 use Rattle.catalogue.specs.Plain.{Row}
 use Rattle.catalogue.specs.Places.{unitsPart}
 use Rattle.catalogue.specs.declared.Text.{Text}
 use Rattle.catalogue.specs.declared.Fields.{Fields}
-use Rattle.bindings_column.specs.Property.{keyProperty, languageProperty, defaultProperty, labelProperty}
+use Rattle.wire.specs.Property.{keyProperty, languageProperty, defaultProperty, labelProperty}
 use Rattle.page.specs.declared.FieldAt.{FieldAt}
 use Rattle.page.specs.declared.FieldAt.the-variants.{NumberIs, TextIs, Absent}
 

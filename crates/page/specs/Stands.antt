@@ -4,11 +4,11 @@ use mathlib.Core.List.{List}
 use Prim.Native.Nat.{ℕ, _+_, _^_, _≤_, _<_}
 use lib.ListN.{length}
 use Rattle.catalogue.specs.Limits.{keyMost, numberMost, sizeMost}
-use Rattle.catalogue.specs.Places.{unitBytesOf, withRow, rowAt, rowOf}
+use Rattle.catalogue.specs.Places.{unitBytesOf, rowOf}
 use Rattle.catalogue.specs.declared.Text.{Text}
 use Rattle.catalogue.specs.declared.Fields.{Fields}
-use Rattle.bindings_column.specs.Property.{cellSize, statusSize, lengthSize}
-use Rattle.bindings_column.specs.declared.Column.{Column}
+use Rattle.wire.specs.Property.{cellSize, statusSize, lengthSize}
+use Rattle.bindings.specs.declared.Column.{Column}
 use Rattle.page.specs.Cell.{offsetWidth, blockRoom}
 use Rattle.page.specs.declared.FieldAt.{FieldAt}
 use Rattle.page.specs.declared.FieldAt.the-variants.{NumberIs, TextIs, Absent}
@@ -35,14 +35,6 @@ abbrev pub FieldStands : List ℕ → FieldAt → Type 0
 FieldStands s (NumberIs v) = v < 2 ^ 32
 FieldStands s (TextIs t) = TextStands s t × (0 < t .size)
 FieldStands s Absent = Unit
-
--- the fields of the row at a place; where there is none, fields that say nothing
-abbrev pub noFields : Fields
-noFields =
-    record { key = 0; language = 0; default = 0; label = record { size = 0; start = 0 }; note = record { size = 0; start = 0 } }
-
-abbrev pub fieldsSeen : List ℕ → ℕ → Fields
-fieldsSeen s at = withRow (rowAt s at) noFields λ f next. f
 
 -- the used spans of a column, in the row at `row`, lie in the first n bytes
 pub record ColumnIn (n row : ℕ) (c : Column) : Type 0 where

@@ -1,4 +1,4 @@
-// What a column of a row has to send: the definitions of its field, status, length, cell and block, and their laws.
+// The page of a rows reply: what a column of a row has to send, rows, and the whole. Definitions and laws, no code.
 use catalogue::Text;
 
 // What a row has for a property.
@@ -7,3 +7,6 @@ pub enum FieldAt {
     TextIs(Text),
     Absent,
 }
+
+// A row's number: a type of its own, so that no seat and no handle can stand for it.
+pub struct Row(pub u32);

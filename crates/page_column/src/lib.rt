@@ -3,10 +3,10 @@ ghost use mathlib.Core.Path.{_≡_};
 ghost use Prim.Native.Nat.{_-_};
 ghost use lib.ListN.{length};
 ghost use Rattle.catalogue.specs.Places.{rowOf};
-ghost use Rattle.wire_lay.specs.Laid.{lays};
+ghost use Rattle.wire.specs.Laid.{lays};
 ghost use Rattle.page.specs.Cell.{blockRoom, columnSpans};
 ghost use Rattle.page.specs.Stands.{ColumnReady};
-use bindings_column::Column;
+use bindings::Column;
 use catalogue::Fields;
 
 // All of a column in the row at `row`, its block ending at `top`: the block's place is given back.

@@ -1,12 +1,12 @@
 // What is sent of a field: its status, its length, its cell, and the room of its block.
 ghost use mathlib.Core.Path.{_≡_};
 ghost use Rattle.catalogue.specs.Places.{rowOf};
-ghost use Rattle.wire_word.specs.Below.{pick};
-ghost use Rattle.bindings_column.specs.Fit.{isUsed};
+ghost use Rattle.lists.specs.Below.{pick};
+ghost use Rattle.bindings.specs.Fit.{isUsed};
 ghost use Rattle.page.specs.Field.{fieldSeen};
 ghost use Rattle.page.specs.Cell.{statusOf, lengthOf, kindOf, contentOf, blockSize, blockRoom};
 ghost use Rattle.page.specs.Stands.{InAny, FieldStands, FieldsStand, FieldSmall, FieldsSmall};
-use bindings_column::Column;
+use bindings::Column;
 use catalogue::Fields;
 use page::FieldAt;
 

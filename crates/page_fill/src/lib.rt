@@ -2,11 +2,11 @@
 ghost use mathlib.Core.Path.{_≡_};
 ghost use Prim.Native.Nat.{_-_};
 ghost use lib.ListN.{length, take};
-ghost use Rattle.bindings_column.specs.Column.{columnsOf};
-ghost use Rattle.wire_lay.specs.Laid.{lays};
-ghost use Rattle.page_row.specs.Rows.{rowsAt, returned, rowsSpans};
-ghost use Rattle.page_row.specs.Ready.{There, RowsReady};
-use page_row::Row;
+ghost use Rattle.bindings.specs.Column.{columnsOf};
+ghost use Rattle.wire.specs.Laid.{lays};
+ghost use Rattle.page.specs.Rows.{rowsAt, returned, rowsSpans};
+ghost use Rattle.page.specs.RowReady.{There, RowsReady};
+use page::Row;
 
 // The rows with these numbers, the first at `from`, with their blocks below `size`: as many as are asked for, remain and fit.
 // Their count is given back. Each row is read once.

@@ -3,16 +3,16 @@ ghost use mathlib.Core.Path.{_≡_};
 ghost use mathlib.Core.List.{[], _∷_, _++_};
 ghost use Prim.Native.Nat.{_+_, _*_, _≤_, _<_};
 ghost use lib.ListN.{length};
-ghost use Rattle.wire_word.specs.Below.{pick};
-ghost use Rattle.wire_word.specs.Word.{le, halves};
+ghost use Rattle.lists.specs.Below.{pick};
+ghost use Rattle.wire.specs.Word.{le, halves};
 ghost use Rattle.catalogue.specs.Places.{unitsPart};
-ghost use Rattle.bindings_column.specs.Property.{lengthSize};
-ghost use Rattle.bindings_column.specs.Fit.{isUsed};
-ghost use Rattle.wire_lay.specs.Laid.{lay, lays};
+ghost use Rattle.wire.specs.Property.{lengthSize};
+ghost use Rattle.bindings.specs.Fit.{isUsed};
+ghost use Rattle.wire.specs.Laid.{lay, lays};
 ghost use Rattle.page.specs.Field.{fieldSeen};
 ghost use Rattle.page.specs.Cell.{cellBytes, blockOf, blockSize, blockSpan, laidIf};
 ghost use Rattle.page.specs.Stands.{TextStands, FieldStands, ColumnIn};
-use bindings_column::Column;
+use bindings::Column;
 use catalogue::Text;
 use page::FieldAt;
 
@@ -21,7 +21,7 @@ fn lay_text(reply: &mut [u8], s: &[u8], text: Text, place: usize)
     requires { ⌜ TextStands (now s) text × (0 < text .size) × (place + 2 * text .size ≤ length (now reply)) ⌝ }
     ensures { λ _. ⌜ now (reply .exit) ≡ lay (now (reply .entry)) place (blockOf (halves (unitsPart (now (s .entry)) text))) ⌝ }
 {
-    let units = catalogue::units(s, text);
+    let units = catalogue_text::units(s, text);
     wire_lay::lay_bytes(reply, place, units);
     let end = place + units.len();
     wire_lay_word::lay_half(reply, end, 0);
@@ -60,7 +60,7 @@ pub fn lay_value(reply: &mut [u8], column: Column, row: usize, kind: u64, number
         return;
     }
     let at = row + (column.value.offset as usize);
-    if column.vtype == bindings_column::VARIANT_TYPE {
+    if column.vtype == wire::VARIANT_TYPE {
         lay_variant(reply, at, kind, number);
         return;
     }

@@ -3,12 +3,12 @@ ghost use mathlib.Core.Path.{_≡_};
 ghost use Prim.Native.Nat.{_<_};
 ghost use lib.ListN.{length};
 ghost use Rattle.catalogue.specs.Places.{RowThere};
-ghost use Rattle.bindings_column.specs.Column.{columnsMost, roomWords, columnAt};
+ghost use Rattle.bindings.specs.Column.{columnsMost, roomWords, columnAt};
 ghost use Rattle.page.specs.Field.{textFieldAt, fieldAt};
-ghost use Rattle.page.specs.Stands.{fieldsSeen};
-use bindings_column::Column;
-use bindings_column::Spot;
-use bindings_column::Value;
+ghost use Rattle.catalogue.specs.Seen.{fieldsSeen};
+use bindings::Column;
+use bindings::Spot;
+use bindings::Value;
 use catalogue::Fields;
 use catalogue::RowAt;
 use catalogue::Text;
@@ -27,16 +27,16 @@ fn text_field(text: Text) -> FieldAt
 pub fn field(fields: Fields, property: u32) -> FieldAt
     ensures { λ r. ⌜ r ≡ fieldAt property fields ⌝ }
 {
-    if property == bindings_column::KEY {
+    if property == wire::KEY {
         return FieldAt::NumberIs(fields.key);
     }
-    if property == bindings_column::LANGUAGE {
+    if property == wire::LANGUAGE {
         return FieldAt::NumberIs(fields.language);
     }
-    if property == bindings_column::DEFAULT {
+    if property == wire::DEFAULT {
         return FieldAt::NumberIs(fields.default);
     }
-    if property == bindings_column::LABEL {
+    if property == wire::LABEL {
         return text_field(fields.label);
     }
     text_field(fields.note)
@@ -64,7 +64,7 @@ pub fn column_at(words: &[u32], k: usize) -> Column
     requires { ⌜ (length (now words) ≡ roomWords) × (k < columnsMost) ⌝ }
     ensures { λ r. ⌜ r ≡ columnAt (now (words .entry)) k ⌝ }
 {
-    let at = bindings_column::COLUMN_WORDS * k;
+    let at = bindings::COLUMN_WORDS * k;
     let value = Value {
         used: words[at + 2],
         offset: words[at + 3],

@@ -3,16 +3,14 @@ ghost use mathlib.Core.Path.{_≡_};
 ghost use Prim.Native.Nat.{_+_, _-_, _≤_};
 ghost use lib.ListN.{length, getD};
 ghost use Rattle.catalogue.specs.Places.{RowThere, rowSeen};
-ghost use Rattle.bindings_column.specs.Column.{columnsOf};
-ghost use Rattle.bindings_column.specs.Fit.{rowMost};
-ghost use Rattle.wire_lay.specs.Laid.{lays};
-ghost use Rattle.page.specs.Stands.{fieldsSeen};
-ghost use Rattle.page_row.specs.Rows.{blocks, rowSpans};
-ghost use Rattle.page_row.specs.Ready.{Words, blocksMost, RowReady};
+ghost use Rattle.bindings.specs.Column.{columnsOf};
+ghost use Rattle.bindings.specs.Fit.{rowMost};
+ghost use Rattle.wire.specs.Laid.{lays};
+ghost use Rattle.catalogue.specs.Seen.{fieldsSeen};
+ghost use Rattle.page.specs.Rows.{blocks, rowSpans};
+ghost use Rattle.page.specs.RowReady.{Words, blocksMost, RowReady};
 use catalogue::Fields;
-
-// A row's number: a type of its own, so that no seat and no handle can stand for it.
-pub struct Row(pub u32);
+use page::Row;
 
 // The place of a row in the catalogue, by its number.
 pub fn place_of(places: &[u32], row: Row) -> usize

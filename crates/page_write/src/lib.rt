@@ -2,11 +2,11 @@
 ghost use mathlib.Core.Path.{_≡_};
 ghost use Prim.Native.Nat.{_-_};
 ghost use lib.ListN.{length, take};
-ghost use Rattle.bindings_column.specs.Column.{columnsOf};
-ghost use Rattle.page_row.specs.Rows.{rowsAt, returned};
-ghost use Rattle.page_row.specs.Ready.{There};
-ghost use Rattle.page_write.specs.Page.{page, statusFor};
-ghost use Rattle.page_write.specs.Ready.{PageReady};
+ghost use Rattle.bindings.specs.Column.{columnsOf};
+ghost use Rattle.page.specs.Rows.{rowsAt, returned};
+ghost use Rattle.page.specs.RowReady.{There};
+ghost use Rattle.page.specs.Page.{page, statusFor};
+ghost use Rattle.page.specs.PageReady.{PageReady};
 
 const ROWS_MESSAGE: u32 = 0xCC;
 

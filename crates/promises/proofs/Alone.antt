@@ -7,11 +7,11 @@ use Prim.Native.Nat.{ℕ, _<_}
 use native.Mathlib.Omega.{arith}
 use borrow.Author.Tests.{le-ltb}
 use lib.Dec.{eqb}
-use Rattle.wire_word.specs.Below.{pick}
-use Rattle.wire_word.proofs.Below.{by-test}
+use Rattle.lists.specs.Below.{pick}
+use Rattle.lists.proofs.Below.{by-test}
 use Rattle.catalogue.specs.Plain.{catalogue}
-use Rattle.tree_node.specs.Reader.{restriction}
-use Rattle.tree_select.specs.Select.{selectedBy}
+use Rattle.tree.specs.Reader.{restriction}
+use Rattle.tree.specs.Select.{selectedBy}
 use Rattle.table.specs.Layout.{seats}
 use Rattle.table.specs.Seat.{Seat, seatBlock, seatOf, fresh, opened}
 use Rattle.table.specs.Fits.{SeatOk}
@@ -23,7 +23,7 @@ use Rattle.refusal.proofs.First.{first-go}
 use Rattle.fetch.specs.Ready.{rowsOf}
 use Rattle.message.specs.Message.{seatMessage}
 use Rattle.message.proofs.Bodies.{with-fits}
-use Rattle.message_keep.proofs.Keeping.{message-fits}
+use Rattle.message.proofs.Keeping.{message-fits}
 use Rattle.query.specs.Open.{freeHandle, openCauses, openedOn}
 use Rattle.call.specs.Step.{Sources, sourcesOf, Outcome, judging, seatHeld, isConnected, seated, sizing, connectStep, messageStep, openDone, openStep}
 use Rattle.call.proofs.Causes.{judging-numbered}

@@ -10,25 +10,26 @@ use native.Mathlib.Omega.{arith}
 use borrow.Author.Tests.{eq-eqb, ne-eqb, eqb-true, eqb-false}
 use lib.Dec.{eqb}
 use lib.ListN.{length}
-use Rattle.wire_word.specs.Below.{pick, both}
-use Rattle.wire_word.specs.Word.{numberAt}
-use Rattle.wire_word.proofs.Below.{by-test, true≢false}
+use Rattle.lists.specs.Below.{pick, both}
+use Rattle.wire.specs.Word.{numberAt}
+use Rattle.lists.proofs.Below.{by-test, true≢false}
 use Rattle.catalogue.specs.Plain.{Row}
-use Rattle.bindings_read.specs.Bindings.{Bindings}
-use Rattle.bindings_read.specs.Plain.{bindings}
-use Rattle.tree_node.specs.Reader.{restriction}
-use Rattle.tree_node.specs.Answer.{isTree}
-use Rattle.tree_select.specs.Select.{selectedBy}
+use Rattle.bindings.specs.Bindings.{Bindings}
+use Rattle.bindings.specs.Plain.{bindings}
+use Rattle.tree.specs.Reader.{restriction}
+use Rattle.tree.specs.Answer.{isTree}
+use Rattle.tree.specs.Select.{selectedBy}
 use Rattle.table.specs.Layout.{seats}
 use Rattle.table.specs.Seat.{Cursor, Seat, cursorIn, withCursor, opened, rebound, moved}
 use Rattle.table.specs.Fits.{SeatOk}
 use Rattle.refusal.specs.Refusal.{firstCause}
 use Rattle.refusal.proofs.First.{first-both}
-use Rattle.fetch_request.specs.Request.{request}
-use Rattle.fetch_request.specs.declared.Request.{Request}
+use Rattle.fetch.specs.Request.{request}
+use Rattle.fetch.specs.declared.Request.{Request}
 use Rattle.fetch.specs.Fetch.{sent, fetchReply, fetched}
 use Rattle.fetch.specs.Ready.{rowsOf}
-use Rattle.message.specs.Message.{msgOf, handleOf, kindOf, kindFrom, served, isOpen, unread, unfit, boundTo, gateCauses, bodyCauses, bodyOf, seatCauses, rowsDone, doneOn, seatMessage}
+use Rattle.message.specs.Message.{msgOf, handleOf, kindOf, kindFrom, served, unread, unfit, boundTo, gateCauses, bodyCauses, bodyOf, seatCauses, rowsDone, doneOn, seatMessage}
+use Rattle.table.specs.Open.{isOpen}
 use Rattle.message.proofs.Answering.{gate-numbered}
 use Rattle.query.specs.Open.{freeHandle}
 use Rattle.call.specs.Step.{Sources, sourcesOf, seatHeld, sizing}

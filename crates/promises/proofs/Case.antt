@@ -4,26 +4,26 @@ use mathlib.Core.List.{List, [], _∷_}
 use mathlib.Core.Option.{Option, none, some}
 use Prim.Native.Nat.{ℕ, _<_}
 use native.Mathlib.Omega.{arith}
-use Rattle.wire_word.specs.Below.{everyBelow}
-use Rattle.wire_word.specs.Word.{number, numberAt, le}
+use Rattle.lists.specs.Below.{everyBelow}
+use Rattle.wire.specs.Word.{number, numberAt, le}
 use Rattle.catalogue.specs.Writer.{unitBytes}
 use Rattle.catalogue.proofs.Vectors.{caseBytes, caseRows, case-parses}
-use Rattle.bindings_column.specs.Each.{every, pairwise}
-use Rattle.bindings_column.specs.Fit.{spansOf, columnsFit, fit}
-use Rattle.bindings_read.specs.Plain.{zeroBytes, flag, spot, value, property, column, columns, bindings}
-use Rattle.tree_part.specs.Padding.{zeros}
-use Rattle.tree_part.specs.Property.{isSet, propertyAt}
-use Rattle.tree_part.specs.Parts.{relationAt}
-use Rattle.tree_node.specs.Holds.{says}
-use Rattle.tree_node.specs.Reader.{readTree, restriction}
-use Rattle.tree_select.specs.Select.{numbersFrom}
-use Rattle.wire_lay.specs.Each.{Each}
-use Rattle.wire_lay.specs.Laid.{lay, lays}
+use Rattle.lists.specs.Every.{every, pairwise}
+use Rattle.bindings.specs.Fit.{spansOf, columnsFit, fit}
+use Rattle.bindings.specs.Plain.{zeroBytes, flag, spot, value, property, column, columns, bindings}
+use Rattle.wire.specs.Padding.{zeros}
+use Rattle.wire.specs.PropertyAt.{isSet, propertyAt}
+use Rattle.tree.specs.Parts.{relationAt}
+use Rattle.tree.specs.TreeHolds.{says}
+use Rattle.tree.specs.Reader.{readTree, restriction}
+use Rattle.tree.specs.Select.{numbersFrom}
+use Rattle.lists.specs.Each.{Each}
+use Rattle.wire.specs.Laid.{lay, lays}
 use Rattle.page.specs.Cell.{columnSpans}
 use Rattle.refusal.specs.Refusal.{firstCause}
-use Rattle.fetch_request.specs.Request.{request}
-use Rattle.page_row.specs.Rows.{blocks, returned, rowSpans, rowsSpans}
-use Rattle.page_write.specs.Page.{pageBytes}
+use Rattle.fetch.specs.Request.{request}
+use Rattle.page.specs.Rows.{blocks, returned, rowSpans, rowsSpans}
+use Rattle.page.specs.Page.{pageBytes}
 use Rattle.table.specs.Layout.{seats}
 use Rattle.table.specs.Seat.{Seat}
 use Rattle.message.specs.Message.{kindFrom, seatMessage}

@@ -6,16 +6,17 @@ use Prim.Native.Nat.{ℕ}
 use native.Mathlib.Omega.{arith}
 use borrow.Author.Tests.{eq-eqb, eqb-false}
 use lib.Dec.{eqb}
-use Rattle.wire_word.specs.Word.{le}
-use Rattle.wire_word.proofs.Below.{by-test}
-use Rattle.wire_word.proofs.Options.{some-is}
+use Rattle.wire.specs.Word.{le}
+use Rattle.lists.proofs.Below.{by-test}
+use Rattle.lists.proofs.Options.{some-is}
 use Rattle.catalogue.specs.Plain.{Row, catalogue}
-use Rattle.wire_lay.specs.Laid.{fourWords}
+use Rattle.wire.specs.Laid.{fourWords}
 use Rattle.table.specs.Seat.{Seat, fresh}
 use Rattle.refusal.specs.Refusal.{firstCause}
 use Rattle.fetch.specs.Ready.{rowsOf}
-use Rattle.message.specs.Message.{msgOf, kindOf, kindFrom, served, stillOpen, seatCauses, seatMessage}
-use Rattle.message_keep.proofs.Keeping.{message-fits}
+use Rattle.message.specs.Message.{msgOf, kindOf, kindFrom, served, seatCauses, seatMessage}
+use Rattle.table.specs.Open.{stillOpen}
+use Rattle.message.proofs.Keeping.{message-fits}
 use Rattle.call.specs.Step.{Sources, sourcesOf, judging, seatHeld, seated, sizing, messageStep}
 use Rattle.call.proofs.Seating.{seat-ok}
 use Rattle.promises.specs.Calls.{connecting, messaging, step, Answer}

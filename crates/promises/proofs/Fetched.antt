@@ -9,18 +9,19 @@ use native.Mathlib.Omega.{arith}
 use borrow.Author.Tests.{eqb-false, eq-eqb}
 use lib.Dec.{eqb}
 use lib.ListN.{length}
-use Rattle.wire_word.proofs.Below.{by-test}
+use Rattle.lists.proofs.Below.{by-test}
 use Rattle.catalogue.specs.Plain.{Row, catalogue}
-use Rattle.bindings_column.specs.Fit.{fit}
+use Rattle.bindings.specs.Fit.{fit}
 use Rattle.table.specs.Layout.{seats}
 use Rattle.table.specs.Seat.{Cursor, Seat, cursorIn}
 use Rattle.table.specs.Fits.{Rising, CursorFits, CursorOk, SeatOk}
 use Rattle.refusal.specs.Refusal.{firstCause}
-use Rattle.fetch_request.specs.Request.{request, Sound}
-use Rattle.fetch_request.specs.declared.Request.{Request}
+use Rattle.fetch.specs.Request.{request, Sound}
+use Rattle.fetch.specs.declared.Request.{Request}
 use Rattle.fetch.specs.Fetch.{fetchReply}
 use Rattle.fetch.specs.Ready.{rowsOf}
-use Rattle.message.specs.Message.{msgOf, handleOf, kindOf, kindFrom, served, isOpen, seatCauses, doneOn, seatMessage}
+use Rattle.message.specs.Message.{msgOf, handleOf, kindOf, kindFrom, served, seatCauses, doneOn, seatMessage}
+use Rattle.table.specs.Open.{isOpen}
 use Rattle.call.specs.Step.{Sources, sourcesOf, judging, seatHeld, sizing, messageStep}
 use Rattle.call.proofs.Seating.{seat-ok}
 use Rattle.promises.specs.Calls.{Call, messaging, step, answerOf, history, after, freshTable}

@@ -7,7 +7,7 @@ use Prim.Native.Nat.{ℕ, zero, suc, _<_}
 use native.Mathlib.Nat.{not-suc-le-zero, le-of-suc-le-suc}
 use native.Mathlib.Omega.{arith}
 use lib.ListN.{length}
-use Rattle.wire_word.proofs.Below.{by-test}
+use Rattle.lists.proofs.Below.{by-test}
 use Rattle.refusal.specs.Refusal.{firstCause}
 use Rattle.refusal.proofs.First.{Numbered}
 use Rattle.promises.specs.Causes.{cause, Given, NoneApplies, Risen}

@@ -7,10 +7,10 @@ use borrow.Author.Tests.{eq-eqb}
 use lib.Dec.{eqb}
 use lib.ListN.{take}
 use lib.Seq.{take-add}
-use Rattle.wire_word.specs.Below.{both}
-use Rattle.wire_word.proofs.Below.{by-test}
-use Rattle.bindings_read.specs.Bindings.{Bindings}
-use Rattle.bindings_read.specs.Plain.{bindings}
+use Rattle.lists.specs.Below.{both}
+use Rattle.lists.proofs.Below.{by-test}
+use Rattle.bindings.specs.Bindings.{Bindings}
+use Rattle.bindings.specs.Plain.{bindings}
 use Rattle.table.specs.Seat.{Cursor}
 use Rattle.message.specs.Message.{msgOf, handleOf}
 use Rattle.call.specs.Step.{Sources}

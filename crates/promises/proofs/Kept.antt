@@ -6,8 +6,8 @@ use Prim.Native.Nat.{ℕ, _≤_}
 use native.Mathlib.Omega.{arith}
 use borrow.Author.Tests.{lt-ltb, le-ltb}
 use lib.ListN.{length, drop}
-use Rattle.wire_word.specs.Word.{le}
-use Rattle.wire_lay.specs.Laid.{fourWords}
+use Rattle.wire.specs.Word.{le}
+use Rattle.wire.specs.Laid.{fourWords}
 use Rattle.refusal.specs.Refusal.{statusOf}
 use Rattle.message.specs.Message.{msgOf}
 use Rattle.call.specs.Step.{Sources, Keeps}

@@ -8,17 +8,17 @@ use Prim.Native.Nat.{ℕ}
 use native.Mathlib.Omega.{arith}
 use borrow.Author.Tests.{eq-eqb}
 use lib.Dec.{eqb}
-use Rattle.wire_word.proofs.Below.{by-test, true≢false}
+use Rattle.lists.proofs.Below.{by-test, true≢false}
 use Rattle.catalogue.specs.Plain.{Row, catalogue}
-use Rattle.tree_node.specs.Tree.{Tree}
-use Rattle.tree_node.specs.Reader.{restriction}
-use Rattle.tree_node.specs.Answer.{isTree}
-use Rattle.tree_select.specs.Select.{selection, selectedBy}
-use Rattle.tree_select.proofs.Selection.{selection-has, selection-rises}
+use Rattle.tree.specs.Tree.{Tree}
+use Rattle.tree.specs.Reader.{restriction}
+use Rattle.tree.specs.Answer.{isTree}
+use Rattle.tree.specs.Select.{selection, selectedBy}
+use Rattle.tree.proofs.Selection.{selection-has, selection-rises}
 use Rattle.table.specs.Seat.{Cursor, Seat, cursorIn, opened}
 use Rattle.refusal.specs.Refusal.{firstCause}
 use Rattle.refusal.proofs.First.{first-both}
-use Rattle.message.specs.Message.{isOpen}
+use Rattle.table.specs.Open.{isOpen}
 use Rattle.query.specs.Open.{freeHandle, openCauses}
 use Rattle.call.specs.Step.{Sources, sourcesOf, Outcome, rowsHold, judging, seatHeld, openDone, openStep}
 use Rattle.call.proofs.Causes.{judging-numbered}

@@ -9,7 +9,7 @@ use borrow.Author.Tests.{eq-eqb}
 use lib.Dec.{eqb}
 use lib.ListN.{length, take, replicate, length-replicate, replicate-append-replicate}
 use lib.Seq.{take-at, drop-at}
-use Rattle.wire_word.proofs.Below.{true≢false, both-true, every-shown}
+use Rattle.lists.proofs.Below.{true≢false, both-true, every-shown}
 use Rattle.catalogue.specs.Plain.{Row, catalogue}
 use Rattle.table.specs.Layout.{seats, seatSize, seatAt, tableSize, part, blockOf}
 use Rattle.table.specs.Seat.{seatBlock, seatOf}

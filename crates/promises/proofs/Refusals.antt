@@ -8,11 +8,11 @@ use Prim.Native.Nat.{ℕ}
 use native.Mathlib.Omega.{arith}
 use borrow.Author.Tests.{eqb-true, eqb-false}
 use lib.Dec.{eqb}
-use Rattle.wire_word.proofs.Below.{by-test}
+use Rattle.lists.proofs.Below.{by-test}
 use Rattle.catalogue.specs.Plain.{Row}
 use Rattle.table.specs.Seat.{Cursor, Seat, cursorIn}
-use Rattle.fetch_request.specs.Request.{request}
-use Rattle.fetch_request.specs.declared.Request.{Request}
+use Rattle.fetch.specs.Request.{request}
+use Rattle.fetch.specs.declared.Request.{Request}
 use Rattle.refusal.specs.Refusal.{firstCause}
 use Rattle.refusal.proofs.First.{Numbered, first-stop, first-go, first-both}
 use Rattle.fetch.specs.Ready.{rowsOf}

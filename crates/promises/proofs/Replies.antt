@@ -12,24 +12,24 @@ use borrow.Author.Tests.{eqb-true, eqb-false}
 use lib.Dec.{eqb}
 use lib.ListN.{length, getD, take, drop, replicate, length-map, length-drop, length-replicate}
 use lib.Seq.{length-take-le, getD-take, getD-drop}
-use Rattle.wire_word.proofs.Below.{by-test}
-use Rattle.wire_word.proofs.Options.{none≢some, some-is}
+use Rattle.lists.proofs.Below.{by-test}
+use Rattle.lists.proofs.Options.{none≢some, some-is}
 use Rattle.catalogue.specs.Plain.{Row, catalogue}
 use Rattle.catalogue.specs.Places.{places, rowSeen}
 use Rattle.catalogue.proofs.Agree.{accepted, catalogue-agrees}
-use Rattle.bindings_column.specs.Fit.{fit}
-use Rattle.bindings_column.specs.Sound.{column}
+use Rattle.bindings.specs.Fit.{fit}
+use Rattle.bindings.specs.Sound.{column}
 use Rattle.page.specs.Field.{fieldOf}
 use Rattle.table.specs.Seat.{Cursor}
 use Rattle.table.specs.Fits.{CursorFits}
-use Rattle.fetch_request.specs.Request.{Sound}
-use Rattle.fetch_request.specs.declared.Request.{Request}
-use Rattle.page_row.specs.Rows.{allBlocks, Fits}
-use Rattle.page_write.specs.Page.{pageBytes, page, statusFor, endOfRows}
-use Rattle.page_write.specs.Reads.{rowIn, rowPlace, blockPlace, Held, Reads, HeadReads}
-use Rattle.page_write.proofs.Head.{held-seen}
-use Rattle.page_write.proofs.ReadBack.{reads-back}
-use Rattle.page_write.proofs.Reply.{page-inside, page-clear, page-zero, bytes-length}
+use Rattle.fetch.specs.Request.{Sound}
+use Rattle.fetch.specs.declared.Request.{Request}
+use Rattle.page.specs.Rows.{allBlocks, Fits}
+use Rattle.page.specs.Page.{pageBytes, page, statusFor, endOfRows}
+use Rattle.page.specs.Reads.{rowIn, rowPlace, blockPlace, Held, Reads, HeadReads}
+use Rattle.page.proofs.Head.{held-seen}
+use Rattle.page.proofs.ReadBack.{reads-back}
+use Rattle.page.proofs.Reply.{page-inside, page-clear, page-zero, bytes-length}
 use Rattle.fetch.specs.Fetch.{remaining, sent, rowsSent, thenLeft, fetchReply}
 use Rattle.promises.specs.Rows.{countIn, statusIn, pageNumbers, pageRows, RowsReply}
 use Rattle.promises.proofs.Served.{bytes-are, inside, greatest, sent-most, room, reply-head, count-read, status-read}

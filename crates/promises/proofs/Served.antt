@@ -10,26 +10,27 @@ use borrow.Author.Tests.{eq-eqb, eqb-true}
 use lib.Dec.{eqb}
 use lib.ListN.{length, replicate, length-replicate, drop-of-length-le}
 use lib.Seq.{length-take-le}
-use Rattle.wire_word.specs.Word.{numberAt}
-use Rattle.wire_word.proofs.Below.{by-test, true≢false}
+use Rattle.wire.specs.Word.{numberAt}
+use Rattle.lists.proofs.Below.{by-test, true≢false}
 use Rattle.catalogue.specs.Plain.{Row}
-use Rattle.bindings_column.specs.Fit.{fit}
-use Rattle.bindings_column.specs.declared.Column.{Column}
+use Rattle.bindings.specs.Fit.{fit}
+use Rattle.bindings.specs.declared.Column.{Column}
 use Rattle.table.specs.Seat.{Cursor, Seat, cursorIn}
 use Rattle.table.specs.Fits.{CursorFits, CursorOk, SeatOk}
 use Rattle.refusal.specs.Refusal.{firstCause}
-use Rattle.fetch_request.specs.Request.{request, Sound}
-use Rattle.fetch_request.specs.declared.Request.{Request}
-use Rattle.fetch_request.proofs.Ranges.{request-sound}
-use Rattle.page_row.specs.Rows.{allBlocks}
-use Rattle.page_write.specs.Page.{pageBytes, page, statusFor}
-use Rattle.page_write.specs.Reads.{HeadReads}
-use Rattle.page_write.proofs.Greatest.{Greatest, returned-is, returned-room}
-use Rattle.page_write.proofs.Head.{head-reads}
-use Rattle.page_write.proofs.Reply.{page-is}
+use Rattle.fetch.specs.Request.{request, Sound}
+use Rattle.fetch.specs.declared.Request.{Request}
+use Rattle.fetch.proofs.Ranges.{request-sound}
+use Rattle.page.specs.Rows.{allBlocks}
+use Rattle.page.specs.Page.{pageBytes, page, statusFor}
+use Rattle.page.specs.Reads.{HeadReads}
+use Rattle.page.proofs.Greatest.{Greatest, returned-is, returned-room}
+use Rattle.page.proofs.Head.{head-reads}
+use Rattle.page.proofs.Reply.{page-is}
 use Rattle.fetch.specs.Fetch.{remaining, unbound, sent, rowsSent, thenLeft, fetchReply}
 use Rattle.fetch.proofs.Sending.{sent-left, sound-inside}
-use Rattle.message.specs.Message.{handleOf, isOpen, unasked, rowsCauses, bodyCauses}
+use Rattle.message.specs.Message.{handleOf, unasked, rowsCauses, bodyCauses}
+use Rattle.table.specs.Open.{isOpen}
 
 -- the cursors of a seat that fits
 pub cursor-ok : (s : Seat) (handle : ℕ) → SeatOk (some s) → CursorOk (cursorIn s handle)

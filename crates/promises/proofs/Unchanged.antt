@@ -6,7 +6,7 @@ use Prim.Native.Nat.{ℕ}
 use native.Mathlib.Omega.{arith}
 use borrow.Author.Tests.{eqb-true, lt-ltb, le-ltb}
 use lib.Dec.{eqb}
-use Rattle.wire_word.proofs.Below.{by-test}
+use Rattle.lists.proofs.Below.{by-test}
 use Rattle.catalogue.specs.Plain.{Row}
 use Rattle.table.specs.Seat.{Seat}
 use Rattle.refusal.specs.Refusal.{firstCause}

@@ -1,11 +1,11 @@
 -- 01's whole case as calls and answers: "Both rows selected, position 0; M7's request with B 512, version 5".
 use mathlib.Core.List.{List, [], _∷_, _++_}
 use Prim.Native.Nat.{ℕ}
-use Rattle.wire_word.specs.Word.{le}
-use Rattle.wire_checksum.proofs.Vectors.{wordsOf}
-use Rattle.wire_lay.specs.Laid.{fourWords}
-use Rattle.tree_node.proofs.Vectors.{spec, related}
-use Rattle.page_write.proofs.Vectors.{caseReply}
+use Rattle.wire.specs.Word.{le}
+use Rattle.wire.proofs.Vectors.{wordsOf}
+use Rattle.wire.specs.Laid.{fourWords}
+use Rattle.tree.proofs.TreeVectors.{spec, related}
+use Rattle.page.proofs.Vectors.{caseReply}
 use Rattle.promises.specs.Calls.{Call, connecting, opening, messaging, Event}
 use Rattle.promises.specs.Numbers.{getRows}
 

@@ -5,8 +5,8 @@ use mathlib.Core.List.{List, [], _∷_, _++_}
 use Prim.Native.Nat.{ℕ, _<_}
 use lib.Dec.{ltb}
 use lib.ListN.{length, getD}
-use Rattle.wire_word.specs.Below.{pick}
-use Rattle.wire_lay.specs.Laid.{fourWords}
+use Rattle.lists.specs.Below.{pick}
+use Rattle.wire.specs.Laid.{fourWords}
 use Rattle.refusal.specs.Refusal.{statusOf}
 use Rattle.fetch.specs.Ready.{rowsOf}
 use Rattle.message.specs.Message.{msgOf, seatCauses}

@@ -3,10 +3,11 @@ use mathlib.Core.Path.{_≡_}
 use mathlib.Core.List.{List, [], _++_}
 use mathlib.Core.Option.{Option, none, some}
 use Prim.Native.Nat.{ℕ}
-use Rattle.wire_word.specs.Word.{le}
-use Rattle.wire_lay.specs.Laid.{fourWords}
+use Rattle.wire.specs.Word.{le}
+use Rattle.wire.specs.Laid.{fourWords}
 use Rattle.table.specs.Seat.{Seat}
-use Rattle.message.specs.Message.{msgOf, stillOpen}
+use Rattle.message.specs.Message.{msgOf}
+use Rattle.table.specs.Open.{stillOpen}
 
 -- an accepted message that is no request for rows, by the seat afterwards and its reply: "Disconnect .. closes both cursors, leaves the
 -- seat unconnected and writes nothing. Free cursor['s] .. reply is _msg, three zero words and the seat's count of cursors still open";

@@ -5,19 +5,19 @@ use mathlib.Core.List.{List, [], _∷_}
 use mathlib.Core.Option.{Option, none, some}
 use Prim.Native.Nat.{ℕ, _+_, _-_}
 use lib.ListN.{replicate}
-use Rattle.wire_checksum.specs.Checksum.{checksum}
-use Rattle.wire_checksum.proofs.Vectors.{messageOf}
-use Rattle.catalogue_number.specs.Groups as Groups
+use Rattle.wire.specs.Checksum.{checksum}
+use Rattle.wire.proofs.Vectors.{messageOf}
+use Rattle.catalogue.specs.Groups as Groups
 use Rattle.catalogue.specs.Limits.{numberMost}
 use Rattle.catalogue.specs.Plain.{Row}
-use Rattle.tree_phrase.specs.Phrase.{occurs}
-use Rattle.tree_phrase.proofs.Vectors.{start, starting, restart, re-start}
-use Rattle.tree_node.proofs.Vectors.{related, nots}
+use Rattle.tree.specs.Phrase.{occurs}
+use Rattle.tree.proofs.PhraseVectors.{start, starting, restart, re-start}
+use Rattle.tree.proofs.TreeVectors.{related, nots}
 use Rattle.refusal.specs.Refusal.{firstCause}
-use Rattle.fetch_request.specs.Request.{request}
-use Rattle.fetch_request.specs.declared.Request.{Request}
-use Rattle.page_row.specs.Rows.{Fits}
-use Rattle.page_write.proofs.Vectors.{caseColumns}
+use Rattle.fetch.specs.Request.{request}
+use Rattle.fetch.specs.declared.Request.{Request}
+use Rattle.page.specs.Rows.{Fits}
+use Rattle.page.proofs.Vectors.{caseColumns}
 use Rattle.table.specs.Seat.{Cursor, fresh}
 use Rattle.fetch.specs.Fetch.{fetchCauses, sent}
 use Rattle.message.specs.Message.{unasked}

@@ -8,11 +8,11 @@ use mathlib.Core.Option.{none, some}
 use Prim.Native.Nat.{ℕ, _<_}
 use lib.ListN.{length}
 use Rattle.catalogue.specs.Plain.{Row, catalogue}
-use Rattle.tree_node.specs.Tree.{Tree}
-use Rattle.tree_node.specs.Holds.{holds}
-use Rattle.tree_node.specs.Reader.{restriction}
-use Rattle.tree_node.specs.Rising.{Rises}
-use Rattle.page_write.specs.Reads.{rowIn}
+use Rattle.tree.specs.Tree.{Tree}
+use Rattle.tree.specs.TreeHolds.{holds}
+use Rattle.tree.specs.Reader.{restriction}
+use Rattle.lists.specs.Rising.{Rises}
+use Rattle.page.specs.Reads.{rowIn}
 use Rattle.table.specs.Seat.{opened}
 use Rattle.call.specs.Step.{Outcome}
 use Rattle.promises.specs.Told.{heldCursor}

@@ -3,7 +3,7 @@
 use mathlib.Core.List.{List, [], _∷_}
 use Prim.Native.Nat.{ℕ}
 use lib.Dec.{eqb}
-use Rattle.wire_word.specs.Below.{pick}
+use Rattle.lists.specs.Below.{pick}
 use Rattle.promises.specs.Calls.{Call, seatOfCall, Event}
 
 -- the calls of a seat, in order

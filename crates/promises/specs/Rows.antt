@@ -6,19 +6,19 @@ use mathlib.Core.Option.{Option, none, some}
 use Prim.Native.Nat.{ℕ, _+_, _≤_, _<_}
 use lib.Dec.{eqb}
 use lib.ListN.{length, getD, take, drop}
-use Rattle.wire_word.specs.Below.{pick, both}
-use Rattle.wire_word.specs.Word.{numberAt}
+use Rattle.lists.specs.Below.{pick, both}
+use Rattle.wire.specs.Word.{numberAt}
 use Rattle.catalogue.specs.Plain.{Row}
-use Rattle.bindings_column.specs.Sound.{column}
+use Rattle.bindings.specs.Sound.{column}
 use Rattle.page.specs.Field.{fieldOf}
-use Rattle.wire_lay.specs.Each.{Each, Pairwise}
-use Rattle.wire_lay.specs.Laid.{Laid, Inside, Clear, Outside}
+use Rattle.lists.specs.Each.{Each, Pairwise}
+use Rattle.wire.specs.Laid.{Laid, Inside, Clear, Outside}
 use Rattle.table.specs.Seat.{Cursor}
-use Rattle.fetch_request.specs.Request.{request}
-use Rattle.fetch_request.specs.declared.Request.{Request}
-use Rattle.page_row.specs.Rows.{Fits}
-use Rattle.page_write.specs.Page.{pageSpans, pageBytes, endOfRows}
-use Rattle.page_write.specs.Reads.{rowIn, rowPlace, blockPlace, Reads, HeadReads}
+use Rattle.fetch.specs.Request.{request}
+use Rattle.fetch.specs.declared.Request.{Request}
+use Rattle.page.specs.Rows.{Fits}
+use Rattle.page.specs.Page.{pageSpans, pageBytes, endOfRows}
+use Rattle.page.specs.Reads.{rowIn, rowPlace, blockPlace, Reads, HeadReads}
 use Rattle.fetch.specs.Fetch.{numbered, remaining}
 use Rattle.message.specs.Message.{msgOf, handleOf}
 use Rattle.call.specs.Step.{Sources}

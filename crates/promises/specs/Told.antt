@@ -7,12 +7,12 @@ use mathlib.Core.Logic.{_⊎_}
 use mathlib.Core.Option.{Option, none, some}
 use Prim.Native.Nat.{ℕ, _+_}
 use lib.Dec.{eqb}
-use Rattle.wire_word.specs.Below.{pick, both}
-use Rattle.wire_word.specs.Word.{numberAt}
-use Rattle.bindings_read.specs.Bindings.{Bindings}
-use Rattle.bindings_read.specs.Plain.{bindings}
-use Rattle.tree_node.specs.Reader.{restriction}
-use Rattle.tree_select.specs.Select.{selectedBy}
+use Rattle.lists.specs.Below.{pick, both}
+use Rattle.wire.specs.Word.{numberAt}
+use Rattle.bindings.specs.Bindings.{Bindings}
+use Rattle.bindings.specs.Plain.{bindings}
+use Rattle.tree.specs.Reader.{restriction}
+use Rattle.tree.specs.Select.{selectedBy}
 use Rattle.table.specs.Seat.{Cursor, Seat, cursorIn, opened, rebound, moved}
 use Rattle.message.specs.Message.{msgOf, handleOf}
 use Rattle.call.specs.Step.{Sources, seatHeld}

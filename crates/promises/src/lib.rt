@@ -1,1 +1,1 @@
-// The promises over any calls: theorems of the definitions that the contracts of the calls cite. No code.
+// The promises over any calls: theorems of the definitions that the contracts of the calls cite. Definitions and laws, no code.

@@ -9,25 +9,25 @@ use native.Mathlib.Omega.{arith}
 use borrow.Author.Tests.{eq-eqb, ne-eqb}
 use lib.Dec.{eqb}
 use lib.ListN.{length, getD, take, drop, set, length-append, length-map, length-replicate}
-use Rattle.wire_word.proofs.Below.{by-test}
-use Rattle.wire_word.proofs.Options.{some-is}
+use Rattle.lists.proofs.Below.{by-test}
+use Rattle.lists.proofs.Options.{some-is}
 use Rattle.catalogue.specs.Plain.{Row, catalogue}
 use Rattle.catalogue.specs.Places.{places, rowSeen}
 use Rattle.catalogue.proofs.Agree.{catalogue-agrees}
-use Rattle.tree_node.specs.Tree.{Tree}
-use Rattle.tree_node.specs.Holds.{holds}
-use Rattle.tree_node.specs.Reader.{restriction}
-use Rattle.tree_node.specs.Answer.{isTree}
-use Rattle.tree_select.specs.Select.{selectedBy, selected}
-use Rattle.tree_select.specs.Noted.{Noted}
-use Rattle.tree_select.proofs.Selection.{numbers-few}
-use Rattle.tree_select.proofs.SelectLaws as Laws
+use Rattle.tree.specs.Tree.{Tree}
+use Rattle.tree.specs.TreeHolds.{holds}
+use Rattle.tree.specs.Reader.{restriction}
+use Rattle.tree.specs.Answer.{isTree}
+use Rattle.tree.specs.Select.{selectedBy, selected}
+use Rattle.tree.specs.Noted.{Noted}
+use Rattle.tree.proofs.Selection.{numbers-few}
+use Rattle.tree.proofs.SelectLaws as Laws
 use Rattle.table.specs.Layout.{cursorSize, rowsSize, put}
 use Rattle.table.specs.Seat.{Seat, zeros, cursorBlock, seatIn, seatOf, opened}
 use Rattle.table.proofs.Tables.{put-length}
 use Rattle.table.proofs.Writes.{opened-block}
 use Rattle.refusal.specs.Refusal.{firstCause}
-use Rattle.message.specs.Message.{isOpen}
+use Rattle.table.specs.Open.{isOpen}
 use Rattle.query.specs.Open.{freeHandle, openCauses}
 use Rattle.query.specs.Answer.{handleFor, Judged}
 

@@ -4,13 +4,13 @@ use mathlib.Core.List.{List, [], _∷_}
 use mathlib.Core.Option.{Option, none, some}
 use Prim.Native.Nat.{ℕ}
 use lib.Dec.{eqb}
-use Rattle.wire_word.specs.Below.{pick}
+use Rattle.lists.specs.Below.{pick}
 use Rattle.catalogue.specs.Plain.{Row}
-use Rattle.tree_node.specs.Reader.{restriction}
-use Rattle.tree_node.specs.Answer.{isTree}
-use Rattle.tree_select.specs.Select.{selectedBy}
+use Rattle.tree.specs.Reader.{restriction}
+use Rattle.tree.specs.Answer.{isTree}
+use Rattle.tree.specs.Select.{selectedBy}
 use Rattle.table.specs.Seat.{Seat, withCursor, opened}
-use Rattle.message.specs.Message.{isOpen}
+use Rattle.table.specs.Open.{isOpen}
 
 -- "the lowest free handle"; 0 where "both handles of the seat [are] open"
 abbrev pub freeHandle : Seat → ℕ

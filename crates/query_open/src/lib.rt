@@ -5,10 +5,10 @@ ghost use mathlib.Core.Option.{none, some};
 ghost use lib.ListN.{length};
 ghost use Rattle.table.specs.Layout.{seatSize, cursorSize, cursorPlace, part, put};
 ghost use Rattle.table.specs.Seat.{cursorBlock, opened};
-ghost use Rattle.tree_node.specs.Reader.{restriction};
-ghost use Rattle.tree_node.specs.Answer.{isTree};
-ghost use Rattle.tree_select.specs.Select.{selected};
-ghost use Rattle.tree_select.specs.Noted.{Noted};
+ghost use Rattle.tree.specs.Reader.{restriction};
+ghost use Rattle.tree.specs.Answer.{isTree};
+ghost use Rattle.tree.specs.Select.{selected};
+ghost use Rattle.tree.specs.Noted.{Noted};
 
 // Opens a closed cursor on the rows that a tree selects.
 fn fill(block: &mut [u32], tree: &[u8], catalogue: &[u8], rows: u32, places: &[u32; 1024])

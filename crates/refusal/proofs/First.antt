@@ -3,7 +3,7 @@ use mathlib.Core.Path.{_≡_, refl, sym}
 use mathlib.Core.Bool.{Bool}
 use mathlib.Core.List.{List, [], _∷_, _++_}
 use Prim.Native.Nat.{ℕ, _<_}
-use Rattle.wire_word.proofs.Below.{by-test}
+use Rattle.lists.proofs.Below.{by-test}
 use Rattle.refusal.specs.Refusal.{firstCause}
 
 -- a cause that applies among the first of a list is the list's

@@ -3,7 +3,7 @@ use mathlib.Core.Bool.{Bool}
 use mathlib.Core.List.{List, [], _∷_}
 use Prim.Native.Nat.{ℕ}
 use lib.ListN.{getD}
-use Rattle.wire_word.specs.Below.{pick}
+use Rattle.lists.specs.Below.{pick}
 
 -- causes in their order, each a number and whether it applies: the first number that applies, else 0
 unfoldable pub firstCause : List (ℕ × Bool) → ℕ

@@ -13,12 +13,12 @@ use borrow.Author.Tests.{eq-eqb, eqb-true, leb-true, lt-ltb, ltb-true}
 use lib.Dec.{leb, eqb}
 use lib.ListN.{length, getD, take, drop, length-drop, length-replicate, getD-replicate, take-append-drop}
 use lib.Seq.{drop-cons, drop-drop, length-take-le, ext-getD, take-append-add, take-add}
-use Rattle.wire_word.specs.Below.{both}
-use Rattle.wire_word.proofs.Below.{by-test, both-left, both-right, every-at, every-shown}
-use Rattle.bindings_column.specs.Column.{columnAt, columnsFrom, columnsOf, recordOf, recordsOf, noWords, wordsOf, columnsMost}
-use Rattle.bindings_column.specs.Each.{every}
-use Rattle.bindings_column.specs.Fit.{fit}
-use Rattle.bindings_column.proofs.Columns.{from-length}
+use Rattle.lists.specs.Below.{both}
+use Rattle.lists.proofs.Below.{by-test, both-left, both-right, every-at, every-shown}
+use Rattle.bindings.specs.Column.{columnAt, columnsFrom, columnsOf, recordOf, recordsOf, noWords, wordsOf, columnsMost}
+use Rattle.lists.specs.Every.{every}
+use Rattle.bindings.specs.Fit.{fit}
+use Rattle.bindings.proofs.Columns.{from-length}
 use Rattle.table.specs.Layout.{cursorSize, openAt, positionAt, countAt, columnsAt, widthAt, recordsAt, recordsSize, rowsAt, rowsSize, part}
 use Rattle.table.specs.Seat.{zeros, cursorBlock, cursorHeld, cursorOf}
 use Rattle.table.specs.Well.{allZero, rising, tidy, boundWell, bindingsWell, selectionWell, openWell, cursorWell}

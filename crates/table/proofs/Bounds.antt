@@ -9,10 +9,10 @@ use borrow.Author.Tests.{eq-eqb, ne-eqb, lt-ltb, ltb-true, leb-true}
 use lib.Dec.{leb, ltb, eqb}
 use lib.ListN.{length, getD, take, drop, length-drop}
 use lib.Seq.{getD-take, getD-drop, length-take-le}
-use Rattle.wire_word.specs.Below.{both}
-use Rattle.wire_word.proofs.Below.{by-test, true≢false, both-true, both-left, both-right}
-use Rattle.bindings_column.specs.Each.{every}
-use Rattle.bindings_column.proofs.Each.{every-index}
+use Rattle.lists.specs.Below.{both}
+use Rattle.lists.proofs.Below.{by-test, true≢false, both-true, both-left, both-right}
+use Rattle.lists.specs.Every.{every}
+use Rattle.lists.proofs.Every.{every-index}
 use Rattle.table.specs.Layout.{cursorSize, connectedAt, firstAt, secondAt, openAt, positionAt, countAt, rowsAt, rowsSize, part}
 use Rattle.table.specs.Seat.{cursorHeld, cursorOf, seatOf}
 use Rattle.table.specs.Well.{openWell, cursorWell, seatWell, cursorBelow, seatBelow}

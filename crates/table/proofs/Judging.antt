@@ -6,10 +6,10 @@ use Prim.Native.Nat.{ℕ, _+_, _-_, _≤_}
 use native.Mathlib.Omega.{arith}
 use borrow.Author.Tests.{eq-eqb, ne-eqb}
 use lib.ListN.{take, drop}
-use Rattle.bindings_column.specs.Column.{columnsOf, columnsMost}
-use Rattle.bindings_column.specs.Fit.{fit}
-use Rattle.bindings_column.proofs.Columns.{from-length}
-use Rattle.bindings_column.proofs.Sound.{fit-sound}
+use Rattle.bindings.specs.Column.{columnsOf, columnsMost}
+use Rattle.bindings.specs.Fit.{fit}
+use Rattle.bindings.proofs.Columns.{from-length}
+use Rattle.bindings.proofs.Sound.{fit-sound}
 use Rattle.table.specs.Layout.{part}
 use Rattle.table.specs.Well.{byFlag}
 

@@ -5,3 +5,4 @@ pub mod Seats
 pub mod Tables
 pub mod Bounds
 pub mod Writes
+pub mod Handles

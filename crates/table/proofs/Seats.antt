@@ -9,8 +9,8 @@ use borrow.Author.Tests.{eqb-true}
 use lib.Dec.{eqb}
 use lib.ListN.{length, getD, take, drop, length-append, length-drop, length-replicate, take-append-drop}
 use lib.Seq.{drop-cons, drop-drop, length-take-le, take-all, take-at, drop-at}
-use Rattle.wire_word.specs.Below.{both}
-use Rattle.wire_word.proofs.Below.{by-test, both-left, both-right, both-true}
+use Rattle.lists.specs.Below.{both}
+use Rattle.lists.proofs.Below.{by-test, both-left, both-right, both-true}
 use Rattle.table.specs.Layout.{seatSize, cursorSize, connectedAt, versionAt, firstAt, secondAt, part}
 use Rattle.table.specs.Seat.{Cursor, Seat, zeros, cursorBlock, cursorOf, seatBlock, seatOf}
 use Rattle.table.specs.Well.{cursorWell, seatWell}

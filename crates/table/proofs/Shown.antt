@@ -10,13 +10,13 @@ use borrow.Author.Tests.{ne-eqb, le-leb}
 use lib.Dec.{leb}
 use lib.ListN.{length, take, drop, length-append, length-replicate}
 use lib.Seq.{length-take-le, take-at, drop-at, take-append-add}
-use Rattle.wire_word.proofs.Below.{both-true}
-use Rattle.bindings_column.specs.Column.{columnsOf, recordsOf, noWords, wordsOf, columnsMost}
-use Rattle.bindings_column.specs.Each.{every}
-use Rattle.bindings_column.specs.Fit.{fit}
-use Rattle.bindings_column.specs.declared.Column.{Column}
-use Rattle.bindings_column.proofs.Sound.{fit-sound}
-use Rattle.bindings_column.proofs.Records.{words-columns, records-length}
+use Rattle.lists.proofs.Below.{both-true}
+use Rattle.bindings.specs.Column.{columnsOf, recordsOf, noWords, wordsOf, columnsMost}
+use Rattle.lists.specs.Every.{every}
+use Rattle.bindings.specs.Fit.{fit}
+use Rattle.bindings.specs.declared.Column.{Column}
+use Rattle.bindings.proofs.Sound.{fit-sound}
+use Rattle.bindings.proofs.Records.{words-columns, records-length}
 use Rattle.table.specs.Layout.{cursorSize, recordsAt, recordsSize, rowsAt, rowsSize, part}
 use Rattle.table.specs.Seat.{Cursor, zeros, cursorBlock, cursorOf}
 use Rattle.table.specs.Well.{allZero, rising, tidy, bindingsWell, cursorWell}

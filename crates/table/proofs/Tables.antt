@@ -9,9 +9,9 @@ use borrow.Author.Tests.{eq-eqb, eqb-true, eqb-false}
 use lib.Dec.{eqb}
 use lib.ListN.{length, getD, take, drop, length-append, length-drop, List·getD-append}
 use lib.Seq.{length-take-le, take-at, drop-at, ext-getD, getD-take, getD-drop, getD-append-add}
-use Rattle.wire_word.specs.Below.{everyBelow}
-use Rattle.bindings_column.proofs.Sound.{either-way}
-use Rattle.wire_word.proofs.Below.{by-test, both-left, both-right, both-true, every-at, every-shown}
+use Rattle.lists.specs.Below.{everyBelow}
+use Rattle.bindings.proofs.Sound.{either-way}
+use Rattle.lists.proofs.Below.{by-test, both-left, both-right, both-true, every-at, every-shown}
 use Rattle.table.specs.Layout.{seats, seatSize, tableSize, seatAt, part, put, blockOf}
 use Rattle.table.specs.Well.{seatWell, tableWell}
 

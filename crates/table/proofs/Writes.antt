@@ -8,8 +8,8 @@ use native.Mathlib.Numerals.{add-one}
 use native.Mathlib.Omega.{arith}
 use lib.ListN.{length, getD, take, drop, set, length-replicate, drop-of-length-le}
 use lib.Seq.{take-at, drop-at, take-all, paste-suc}
-use Rattle.bindings_column.specs.Column.{recordsOf, wordsOf}
-use Rattle.bindings_column.specs.declared.Column.{Column}
+use Rattle.bindings.specs.Column.{recordsOf, wordsOf}
+use Rattle.bindings.specs.declared.Column.{Column}
 use Rattle.table.specs.Layout.{seatSize, cursorSize, firstAt, secondAt, openAt, positionAt, countAt, columnsAt, widthAt, recordsAt, recordsSize, rowsAt, rowsSize, put}
 use Rattle.table.specs.Seat.{Cursor, Seat, zeros, cursorBlock, seatBlock, fresh, opened, rebound, moved}
 use Rattle.table.proofs.Shown.{words-length}

@@ -6,8 +6,8 @@ use mathlib.Core.Logic.{_⊎_}
 use mathlib.Core.Option.{Option, none, some}
 use Prim.Native.Nat.{ℕ, _+_, _≤_, _<_}
 use lib.ListN.{length, getD}
-use Rattle.bindings_column.specs.Each.{every}
-use Rattle.bindings_column.specs.Fit.{fit}
+use Rattle.lists.specs.Every.{every}
+use Rattle.bindings.specs.Fit.{fit}
 use Rattle.table.specs.Layout.{rowsSize}
 use Rattle.table.specs.Seat.{Cursor, Seat}
 use Rattle.table.specs.Well.{tidy}

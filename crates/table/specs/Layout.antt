@@ -3,7 +3,7 @@ use mathlib.Core.List.{List, _++_}
 use Prim.Native.Nat.{ℕ, _*_}
 use lib.Dec.{eqb}
 use lib.ListN.{take, drop}
-use Rattle.wire_word.specs.Below.{pick}
+use Rattle.lists.specs.Below.{pick}
 
 -- "8 seats (0 to 7)": a block for each, one after the other
 abbrev pub seats : ℕ

@@ -5,9 +5,9 @@ use mathlib.Core.Option.{Option, none, some}
 use Prim.Native.Nat.{ℕ, _-_}
 use lib.Dec.{eqb}
 use lib.ListN.{length, getD, take, drop, replicate}
-use Rattle.wire_word.specs.Below.{pick}
-use Rattle.bindings_column.specs.Column.{columnsOf, wordsOf}
-use Rattle.bindings_column.specs.declared.Column.{Column}
+use Rattle.lists.specs.Below.{pick}
+use Rattle.bindings.specs.Column.{columnsOf, wordsOf}
+use Rattle.bindings.specs.declared.Column.{Column}
 use Rattle.table.specs.Layout.{seatSize, cursorSize, connectedAt, versionAt, firstAt, secondAt, openAt, positionAt, countAt, columnsAt, widthAt, recordsAt, recordsSize, rowsAt, rowsSize, part}
 
 -- an open cursor: how many rows it has carried, the row numbers it selects, and its bindings (no columns: none yet)

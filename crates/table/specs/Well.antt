@@ -5,11 +5,11 @@ use mathlib.Core.Option.{Option, none, some}
 use Prim.Native.Nat.{ℕ, _+_, _-_, _*_}
 use lib.Dec.{leb, ltb, eqb}
 use lib.ListN.{length, getD, take, drop}
-use Rattle.wire_word.specs.Below.{pick, both, everyBelow}
-use Rattle.bindings_column.specs.Column.{columnsOf}
-use Rattle.bindings_column.specs.Each.{every}
-use Rattle.bindings_column.specs.Fit.{fit}
-use Rattle.bindings_column.specs.declared.Column.{Column}
+use Rattle.lists.specs.Below.{pick, both, everyBelow}
+use Rattle.bindings.specs.Column.{columnsOf}
+use Rattle.lists.specs.Every.{every}
+use Rattle.bindings.specs.Fit.{fit}
+use Rattle.bindings.specs.declared.Column.{Column}
 use Rattle.table.specs.Layout.{seats, tableSize, cursorSize, connectedAt, firstAt, secondAt, openAt, positionAt, countAt, columnsAt, widthAt, recordsAt, recordsSize, rowsAt, rowsSize, part, blockOf}
 use Rattle.table.specs.Seat.{Cursor, Seat, seatOf}
 

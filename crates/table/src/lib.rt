@@ -1,4 +1,4 @@
-// The session table: the places of its words.
+// The session table: the places of its words, and what it is well formed by. Definitions and laws, no code.
 
 pub const SEATS: u32 = 8;
 
@@ -27,3 +27,8 @@ pub const WIDTH: usize = 4;
 pub const RECORDS: usize = 5;
 
 pub const ROWS: usize = 50;
+
+// A seat and a cursor's handle: types of their own, as a row's number is (`page::Row`), so that none can stand for another.
+pub struct Seat(pub u32);
+
+pub struct Handle(pub u32);

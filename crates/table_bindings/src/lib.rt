@@ -2,8 +2,8 @@
 ghost use mathlib.Core.Path.{_≡_};
 ghost use Prim.Native.Nat.{_^_, _≤_, _<_};
 ghost use lib.ListN.{length};
-ghost use Rattle.bindings_column.specs.Column.{columnAt, columnsOf, columnsMost};
-ghost use Rattle.bindings_column.specs.Each.{every};
+ghost use Rattle.bindings.specs.Column.{columnAt, columnsOf, columnsMost};
+ghost use Rattle.lists.specs.Every.{every};
 ghost use Rattle.table.specs.Layout.{cursorSize, recordsSize};
 ghost use Rattle.table.specs.Well.{allZero, flagged, tidy, boundWell, bindingsWell};
 
@@ -43,7 +43,7 @@ fn tidy(records: &[u32], k: usize) -> bool
     requires { ⌜ (length (now records) ≡ recordsSize) × (k < columnsMost) ⌝ }
     ensures { λ r. ⌜ r ≡ tidy (columnAt (now (records .entry)) k) ⌝ }
 {
-    let at = bindings_column::COLUMN_WORDS * k;
+    let at = bindings::COLUMN_WORDS * k;
     let value = wide(records[at + 3]) + wide(records[at + 4]);
     if !flagged(records[at + 2], value) {
         return false;
@@ -85,7 +85,7 @@ fn bound_well(records: &[u32], count: u32, width: u32) -> bool
     if !all_tidy(records, n) {
         return false;
     }
-    let unused = bindings_column::COLUMN_WORDS * n;
+    let unused = bindings::COLUMN_WORDS * n;
     all_zero(&records[unused..])
 }
 

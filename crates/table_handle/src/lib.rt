@@ -3,7 +3,7 @@ ghost use mathlib.Core.Path.{_≡_};
 ghost use lib.ListN.{length};
 ghost use Rattle.table.specs.Layout.{seatSize, cursorPlace};
 ghost use Rattle.table.specs.Seat.{cursorIn, seatIn};
-ghost use Rattle.message.specs.Message.{isOpen, stillOpen};
+ghost use Rattle.table.specs.Open.{isOpen, stillOpen};
 
 // Whether a handle is open.
 pub fn is_open(block: &[u32], handle: u32) -> bool

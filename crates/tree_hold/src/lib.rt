@@ -5,12 +5,12 @@ ghost use mathlib.Core.Bool.{true};
 ghost use Prim.Native.Nat.{_+_, _≤_};
 ghost use lib.ListN.{length};
 ghost use Rattle.catalogue.specs.Places.{rowOf};
-ghost use Rattle.tree_match.specs.Inside.{RowInside};
-ghost use Rattle.tree_node.specs.Holds.{heldBy};
-ghost use Rattle.tree_node.specs.Reader.{restriction};
-ghost use Rattle.tree_node.specs.Answer.{isTree};
-ghost use Rattle.tree_hold.specs.Told.{localeAt, relationTold, contentTold, leafTold};
-ghost use Rattle.tree_hold.specs.There.{LeafThere, NodeThere, NodeTold, ListThere, ListTold};
+ghost use Rattle.tree.specs.Inside.{RowInside};
+ghost use Rattle.tree.specs.TreeHolds.{heldBy};
+ghost use Rattle.tree.specs.Reader.{restriction};
+ghost use Rattle.tree.specs.Answer.{isTree};
+ghost use Rattle.tree.specs.HoldTold.{localeAt, relationTold, contentTold, leafTold};
+ghost use Rattle.tree.specs.There.{LeafThere, NodeThere, NodeTold, ListThere, ListTold};
 use catalogue::Fields;
 
 const LEVELS_MOST: u32 = 8;

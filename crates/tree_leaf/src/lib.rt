@@ -1,12 +1,12 @@
 // The reader of a leaf of a restriction tree: the parts of one, from bytes.
 ghost use mathlib.Core.Path.{_≡_};
 ghost use Prim.Native.Nat.{_^_, _≤_, _<_};
-ghost use Rattle.tree_part.specs.Parts.{phraseAt, contentAt, relationAt, leafAt};
-use tree_part::Content;
-use tree_part::LeafAt;
-use tree_part::Parts;
-use tree_part::PhraseAt;
-use tree_part::Relation;
+ghost use Rattle.tree.specs.Parts.{phraseAt, contentAt, relationAt, leafAt};
+use tree::Content;
+use tree::LeafAt;
+use tree::Parts;
+use tree::PhraseAt;
+use tree::Relation;
 
 const PHRASE_MOST: u32 = 64;
 

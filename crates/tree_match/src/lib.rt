@@ -1,10 +1,10 @@
 // What a leaf says of a row: how the row's number relates to the leaf's, and whether the row's text holds the leaf's phrase.
 ghost use mathlib.Core.Path.{_≡_};
-ghost use Rattle.wire_word.specs.Word.{halves};
+ghost use Rattle.wire.specs.Word.{halves};
 ghost use Rattle.catalogue.specs.Places.{textOf};
-ghost use Rattle.tree_part.specs.Property.{ofNumbers, ofTexts};
-ghost use Rattle.tree_part.specs.Holds.{relationHolds, phraseHolds};
-ghost use Rattle.tree_match.specs.Inside.{TextInside};
+ghost use Rattle.wire.specs.PropertyAt.{ofNumbers, ofTexts};
+ghost use Rattle.tree.specs.LeafHolds.{relationHolds, phraseHolds};
+ghost use Rattle.tree.specs.Inside.{TextInside};
 use catalogue::Fields;
 use catalogue::Text;
 
@@ -58,5 +58,5 @@ pub fn phrase_holds(phrase: &[u8], method: u32, catalogue: &[u8], text: Text) ->
     if text.size == 0 {
         return false;
     }
-    tree_phrase::occurs(catalogue::units(catalogue, text), phrase, method)
+    tree_phrase::occurs(catalogue_text::units(catalogue, text), phrase, method)
 }

@@ -2,9 +2,11 @@
 ghost use mathlib.Core.Path.{_≡_};
 ghost use Prim.Native.Nat.{_+_, _^_, _≤_, _<_};
 ghost use lib.ListN.{length};
-ghost use Rattle.tree_node.specs.Reader.{leafRead, branchRead, readTree, readList, isBranch};
-ghost use Rattle.tree_node.specs.Answer.{nodeAnswer, nodeUsed, listAnswer, listUsed, notAnswer, branchAnswer, moreAnswer};
-use tree_part::LeafAt;
+ghost use Rattle.tree.specs.Reader.{leafRead, branchRead, readTree, readList, isBranch};
+ghost use Rattle.tree.specs.Answer.{nodeAnswer, nodeUsed, listAnswer, listUsed, notAnswer, branchAnswer, moreAnswer};
+use tree::LeafAt;
+use tree::ListRead;
+use tree::NodeRead;
 
 // The kinds of a node that has children.
 const AND: u32 = 1;
@@ -17,18 +19,6 @@ const NOT: u32 = 3;
 const HEAD_SIZE: usize = 8;
 
 const LIST_HEAD: usize = 12;
-
-// A node that was read: the bytes that it takes, and how many nodes may still come.
-pub enum NodeRead {
-    Node(usize, u32),
-    NoNode,
-}
-
-// Children that were read: the bytes that they take, and how many nodes may still come.
-pub enum ListRead {
-    Children(usize, u32),
-    NoChildren,
-}
 
 // A leaf as a node.
 fn leaf_node(kind: u32, s: &[u8], place: usize, nodes: u32) -> NodeRead

@@ -3,45 +3,12 @@ ghost use mathlib.Core.Path.{_≡_};
 ghost use Prim.Native.Nat.{_+_, _≤_};
 ghost use lib.Dec.{leb};
 ghost use lib.ListN.{length};
-ghost use Rattle.wire_word.specs.Below.{both};
-ghost use Rattle.tree_part.specs.Padding.{padding, zeros};
-ghost use Rattle.tree_part.specs.Property.{isSet, propertySize, propertyAt};
+ghost use Rattle.lists.specs.Below.{both};
+ghost use Rattle.wire.specs.Padding.{padding, zeros};
+ghost use Rattle.wire.specs.PropertyAt.{isSet, propertySize, propertyAt};
 
 // The ulKind of a numbered property.
 const NUMBERED: u32 = 1;
-
-// A content leaf: its property, where its phrase's units begin and how many they are, and its method.
-pub struct Content {
-    pub property: u32,
-    pub start: usize,
-    pub count: usize,
-    pub method: u32,
-}
-
-// A property leaf.
-pub struct Relation {
-    pub relop: u32,
-    pub property: u32,
-    pub value: u64,
-}
-
-// A leaf of either kind.
-pub enum Parts {
-    OfContent(Content),
-    OfRelation(Relation),
-}
-
-// A phrase on the wire: where its units begin, how many they are, and where the locale begins.
-pub enum PhraseAt {
-    PhraseTo(usize, usize, usize),
-    NoPhrase,
-}
-
-// A leaf, with the bytes that it takes.
-pub enum LeafAt {
-    LeafTo(Parts, usize),
-    NoLeaf,
-}
 
 // How many bytes stand between a place and the next multiple of four.
 pub fn padding(place: usize) -> usize

@@ -2,8 +2,8 @@
 ghost use mathlib.Core.Path.{_≡_};
 ghost use Prim.Native.Nat.{_*_, _≤_, _<_};
 ghost use lib.ListN.{length, getD};
-ghost use Rattle.wire_word.specs.Word.{halves};
-ghost use Rattle.tree_phrase.specs.Phrase.{startsWord, endsWord, occurs};
+ghost use Rattle.wire.specs.Word.{halves};
+ghost use Rattle.tree.specs.Phrase.{startsWord, endsWord, occurs};
 
 // The unit that parts words.
 const SPACE: u32 = 0x0020;

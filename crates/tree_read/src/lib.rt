@@ -1,8 +1,8 @@
 // The restriction tree as a whole: whether bytes hold one and no more.
 ghost use mathlib.Core.Path.{_≡_};
-ghost use Rattle.tree_node.specs.Reader.{restriction};
-ghost use Rattle.tree_node.specs.Answer.{isTree};
-use tree_node::NodeRead;
+ghost use Rattle.tree.specs.Reader.{restriction};
+ghost use Rattle.tree.specs.Answer.{isTree};
+use tree::NodeRead;
 
 const BYTES_MOST: usize = 4096;
 

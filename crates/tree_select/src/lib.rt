@@ -5,11 +5,11 @@ ghost use Prim.Native.Nat.{_≤_};
 ghost use lib.ListN.{length};
 ghost use Rattle.catalogue.specs.Limits.{rowsMost};
 ghost use Rattle.catalogue.specs.Places.{RowThere, rowSeen};
-ghost use Rattle.tree_node.specs.Holds.{heldBy};
-ghost use Rattle.tree_node.specs.Reader.{restriction};
-ghost use Rattle.tree_node.specs.Answer.{isTree};
-ghost use Rattle.tree_select.specs.Select.{Selected};
-ghost use Rattle.tree_select.specs.Noted.{Noted};
+ghost use Rattle.tree.specs.TreeHolds.{heldBy};
+ghost use Rattle.tree.specs.Reader.{restriction};
+ghost use Rattle.tree.specs.Answer.{isTree};
+ghost use Rattle.tree.specs.Select.{Selected};
+ghost use Rattle.tree.specs.Noted.{Noted};
 use catalogue::RowAt;
 
 // Whether the tree holds for the row at a place.

@@ -1,7 +1,7 @@
 // What is said of a node of a tree: the place after it, and whether it holds.
 ghost use mathlib.Core.Path.{_≡_};
 ghost use Prim.Native.Nat.{_^_, _<_};
-ghost use Rattle.tree_verdict.specs.Told.{told, turned, withChild};
+ghost use Rattle.tree.specs.VerdictTold.{told, turned, withChild};
 
 // The kind of an and.
 const AND: u32 = 1;

@@ -2,7 +2,7 @@
 ghost use mathlib.Core.Path.{_≡_};
 ghost use Prim.Native.Nat.{_≤_};
 ghost use lib.ListN.{length};
-ghost use Rattle.wire_checksum.specs.Checksum.{bodySum, checksum, checksumTold, headerSize, messageMost};
+ghost use Rattle.wire.specs.Checksum.{bodySum, checksum, checksumTold, headerSize, messageMost};
 
 pub const HEADER_SIZE: usize = 16;
 

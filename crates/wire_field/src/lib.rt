@@ -3,19 +3,9 @@ ghost use mathlib.Core.Path.{_≡_};
 ghost use Prim.Native.Nat.{_+_, _%_, _≤_, _<_};
 ghost use lib.Dec.{leb};
 ghost use lib.ListN.{length};
-ghost use Rattle.wire_field.specs.Fields.{paddedOn, numberOn, flagOn, setSize, setOurs, propertyOn};
-
-// A place after padding.
-pub enum PlaceRead {
-    Place(usize),
-    Malformed,
-}
-
-// A number with the place after it.
-pub enum NumberRead {
-    Number(u32, usize),
-    Malformed,
-}
+ghost use Rattle.wire.specs.Fields.{paddedOn, numberOn, flagOn, setSize, setOurs, propertyOn};
+use wire::NumberRead;
+use wire::PlaceRead;
 
 // A full property: the set identifier, the kind of what follows, and the property's number.
 const SET_SIZE: usize = 16;

@@ -3,7 +3,7 @@ ghost use mathlib.Core.Path.{_≡_};
 ghost use mathlib.Core.List.{[], _∷_};
 ghost use Prim.Native.Nat.{_+_, _≤_};
 ghost use lib.ListN.{length};
-ghost use Rattle.wire_lay.specs.Laid.{lay, cleared};
+ghost use Rattle.wire.specs.Laid.{lay, cleared};
 
 // One byte.
 pub fn lay_byte(reply: &mut [u8], at: usize, value: u8)

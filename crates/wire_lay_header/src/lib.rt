@@ -2,7 +2,7 @@
 ghost use mathlib.Core.Path.{_≡_};
 ghost use Prim.Native.Nat.{_+_, _≤_};
 ghost use lib.ListN.{length};
-ghost use Rattle.wire_lay.specs.Laid.{lay, fourWords, header};
+ghost use Rattle.wire.specs.Laid.{lay, fourWords, header};
 
 // Four 32-bit words in a row.
 pub fn lay_four(reply: &mut [u8], at: usize, a: u32, b: u32, c: u32, d: u32)

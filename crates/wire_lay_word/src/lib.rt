@@ -2,8 +2,8 @@
 ghost use mathlib.Core.Path.{_≡_};
 ghost use Prim.Native.Nat.{_+_, _≤_};
 ghost use lib.ListN.{length};
-ghost use Rattle.wire_word.specs.Word.{le};
-ghost use Rattle.wire_lay.specs.Laid.{lay};
+ghost use Rattle.wire.specs.Word.{le};
+ghost use Rattle.wire.specs.Laid.{lay};
 
 // The low 16 bits of a number, low byte first.
 pub fn lay_half(reply: &mut [u8], at: usize, value: u64)

@@ -2,7 +2,7 @@
 ghost use mathlib.Core.Path.{_≡_};
 ghost use Prim.Native.Nat.{_+_, _*_, _≤_, _<_};
 ghost use lib.ListN.{length, getD};
-ghost use Rattle.wire_word.specs.Word.{numberAt};
+ghost use Rattle.wire.specs.Word.{numberAt};
 
 // A byte as a wider number.
 fn byte(s: &[u8], at: usize) -> u32

@@ -4,8 +4,8 @@ use Rattle.bindings_fit.proofs.columns_for.Statement.{statement}
 use Rattle.bindings_fit.proofs.columns_for.Tie as tie
 use mathlib.Core.Path.{sym, _∙_}
 use borrow.Author.Tests.{not-true, not-false}
-use Rattle.bindings_column.specs.Fit.{columnsFit}
-use Rattle.bindings_column.proofs.Spans.{spans-by-index}
+use Rattle.bindings.specs.Fit.{columnsFit}
+use Rattle.bindings.proofs.Spans.{spans-by-index}
 
 columns-fit-requires : tie.Need-columns-fit-requires
 columns-fit-requires c κs = search needs

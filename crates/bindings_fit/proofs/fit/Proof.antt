@@ -5,9 +5,9 @@ use Rattle.bindings_fit.proofs.fit.Tie as tie
 use mathlib.Core.Path.{sym, _∙_}
 use borrow.Author.Tests.{not-true, not-false, leb-true}
 use lib.Dec.{leb}
-use Rattle.wire_word.proofs.Below.{both-right}
-use Rattle.bindings_column.specs.Fit.{fit}
-use Rattle.bindings_column.proofs.Columns.{from-length}
+use Rattle.lists.proofs.Below.{both-right}
+use Rattle.bindings.specs.Fit.{fit}
+use Rattle.bindings.proofs.Columns.{from-length}
 
 within-requires : tie.Need-within-requires
 within-requires c κs = search needs

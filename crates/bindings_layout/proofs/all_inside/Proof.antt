@@ -5,11 +5,11 @@ use borrow.Author.Needs.{needs}
 use Prim.Native.Nat.{_+_}
 use mathlib.Core.Path.{_≡_, sym, _∙_, ap}
 use native.Mathlib.Omega.{arith}
-use Rattle.bindings_column.specs.Each.{every}
-use Rattle.bindings_column.specs.Fit.{inside}
-use Rattle.bindings_column.specs.Spans.{spansFrom}
-use Rattle.bindings_column.proofs.Each.{every-none}
-use Rattle.bindings_column.proofs.Spans.{inside-none, each-more, spans-none, each-stop}
+use Rattle.lists.specs.Every.{every}
+use Rattle.bindings.specs.Fit.{inside}
+use Rattle.bindings.specs.Spans.{spansFrom}
+use Rattle.lists.proofs.Every.{every-none}
+use Rattle.bindings.proofs.Spans.{inside-none, each-more, spans-none, each-stop}
 use borrow.Author.Tests.{le-leb, lt-leb}
 
 abbrev Inv-loop : tie.InvT-loop

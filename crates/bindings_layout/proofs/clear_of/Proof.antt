@@ -6,11 +6,11 @@ use Prim.Native.Nat.{_+_}
 use mathlib.Core.Path.{_≡_, sym, ap, _∙_}
 use native.Mathlib.Omega.{arith}
 use borrow.Author.Tests.{not-true, not-false}
-use Rattle.bindings_column.specs.Each.{every}
-use Rattle.bindings_column.specs.Fit.{apart}
-use Rattle.bindings_column.specs.Spans.{spansFrom}
-use Rattle.bindings_column.proofs.Each.{every-none}
-use Rattle.bindings_column.proofs.Spans.{apart-none, each-more, each-stop, spans-none}
+use Rattle.lists.specs.Every.{every}
+use Rattle.bindings.specs.Fit.{apart}
+use Rattle.bindings.specs.Spans.{spansFrom}
+use Rattle.lists.proofs.Every.{every-none}
+use Rattle.bindings.proofs.Spans.{apart-none, each-more, each-stop, spans-none}
 
 abbrev Inv-loop : tie.InvT-loop
 Inv-loop words from total a i₀ left₀ i left = (i + left ≡ from + total) × (every (apart a) (spansFrom total from words) ≡ every (apart a) (spansFrom left i words))

@@ -6,12 +6,12 @@ use Prim.Native.Nat.{_+_, _-_}
 use mathlib.Core.Path.{_≡_, sym, ap, _∙_}
 use native.Mathlib.Omega.{arith}
 use borrow.Author.Tests.{not-true, not-false}
-use Rattle.bindings_column.specs.Each.{every, pairwise}
-use Rattle.bindings_column.specs.Fit.{apart}
-use Rattle.bindings_column.specs.Spans.{spansFrom}
-use Rattle.bindings_column.specs.declared.Span.{Span}
-use Rattle.bindings_column.proofs.Each.{pair-none}
-use Rattle.bindings_column.proofs.Spans.{two-more, two-stop, spans-none}
+use Rattle.lists.specs.Every.{every, pairwise}
+use Rattle.bindings.specs.Fit.{apart}
+use Rattle.bindings.specs.Spans.{spansFrom}
+use Rattle.bindings.specs.declared.Span.{Span}
+use Rattle.lists.proofs.Every.{pair-none}
+use Rattle.bindings.proofs.Spans.{two-more, two-stop, spans-none}
 
 abbrev Inv-loop : tie.InvT-loop
 Inv-loop words total i₀ left₀ i left = (i + left ≡ total) × (pairwise apart (spansFrom total 0 words) ≡ pairwise apart (spansFrom left i words))

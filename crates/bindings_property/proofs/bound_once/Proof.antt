@@ -6,11 +6,11 @@ use Prim.Native.Nat.{_+_}
 use mathlib.Core.Path.{_≡_, sym, _∙_}
 use native.Mathlib.Omega.{arith}
 use borrow.Author.Tests.{not-true, not-false}
-use Rattle.bindings_column.specs.Each.{pairwise}
-use Rattle.bindings_column.specs.Column.{columnsFrom, columnsOf}
-use Rattle.bindings_column.specs.Fit.{differ}
-use Rattle.bindings_column.proofs.Each.{pair-more, pair-stop, pair-none}
-use Rattle.bindings_column.proofs.Columns.{from-more, from-none}
+use Rattle.lists.specs.Every.{pairwise}
+use Rattle.bindings.specs.Column.{columnsFrom, columnsOf}
+use Rattle.bindings.specs.Fit.{differ}
+use Rattle.lists.proofs.Every.{pair-more, pair-stop, pair-none}
+use Rattle.bindings.proofs.Columns.{from-more, from-none}
 
 abbrev Inv-loop : tie.InvT-loop
 Inv-loop words count k₀ left₀ k left = (k + left ≡ count) × (pairwise differ (columnsOf count words) ≡ pairwise differ (columnsFrom left k words))

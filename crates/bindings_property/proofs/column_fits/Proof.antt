@@ -4,8 +4,8 @@ use Rattle.bindings_property.proofs.column_fits.Statement.{statement}
 use Rattle.bindings_property.proofs.column_fits.Tie as tie
 use mathlib.Core.Path.{sym, _∙_}
 use borrow.Author.Tests.{not-true, not-false}
-use Rattle.bindings_column.specs.Column.{columnAt}
-use Rattle.bindings_column.proofs.Judged.{fits-no-type, fits-used, fits-unused, fits-unknown}
+use Rattle.bindings.specs.Column.{columnAt}
+use Rattle.bindings.proofs.FitJudged.{fits-no-type, fits-used, fits-unused, fits-unknown}
 
 mul-at : tie.Need-mul-at
 mul-at c = search needs

@@ -4,11 +4,11 @@ use Rattle.bindings_property.proofs.columns_fit.Tie as tie
 use borrow.Author.Needs.{needs}
 use Prim.Native.Nat.{_+_}
 use mathlib.Core.Path.{_≡_, sym, _∙_}
-use Rattle.bindings_column.specs.Each.{every}
-use Rattle.bindings_column.specs.Column.{columnsFrom, columnsOf}
-use Rattle.bindings_column.specs.Fit.{columnFits}
-use Rattle.bindings_column.proofs.Each.{every-more, every-stop, every-none}
-use Rattle.bindings_column.proofs.Columns.{from-more, from-none}
+use Rattle.lists.specs.Every.{every}
+use Rattle.bindings.specs.Column.{columnsFrom, columnsOf}
+use Rattle.bindings.specs.Fit.{columnFits}
+use Rattle.lists.proofs.Every.{every-more, every-stop, every-none}
+use Rattle.bindings.proofs.Columns.{from-more, from-none}
 use native.Mathlib.Omega.{arith}
 use borrow.Author.Tests.{not-true, not-false}
 

@@ -5,11 +5,11 @@ use borrow.Author.Needs.{needs}
 use Prim.Native.Nat.{_+_, _*_}
 use mathlib.Core.Path.{_≡_, sym, _∙_}
 use native.Mathlib.Omega.{arith}
-use Rattle.bindings_column.specs.Each.{every}
-use Rattle.bindings_column.specs.Column.{columnsFrom}
-use Rattle.bindings_column.specs.Fit.{unlike}
-use Rattle.bindings_column.proofs.Each.{every-more, every-stop, every-none}
-use Rattle.bindings_column.proofs.Columns.{from-more, from-none}
+use Rattle.lists.specs.Every.{every}
+use Rattle.bindings.specs.Column.{columnsFrom}
+use Rattle.bindings.specs.Fit.{unlike}
+use Rattle.lists.proofs.Every.{every-more, every-stop, every-none}
+use Rattle.bindings.proofs.Columns.{from-more, from-none}
 use borrow.Author.Tests.{eq-eqb, ne-eqb}
 use lib.ListN.{getD}
 

@@ -4,7 +4,7 @@ use Rattle.bindings_read.proofs.read.Statement.{statement}
 use Rattle.bindings_read.proofs.read.Tie as tie
 use mathlib.Core.Path.{sym, _∙_}
 use borrow.Author.Tests.{not-true, not-false}
-use Rattle.bindings_read.proofs.Told.{told-short, told-described, told-columns, told-some}
+use Rattle.bindings.proofs.Told.{told-short, told-described, told-columns, told-some}
 
 clear-requires : tie.Need-clear-requires
 clear-requires c κs = search needs

@@ -5,7 +5,7 @@ use Rattle.bindings_record.proofs.keep.Tie as tie
 use Prim.Native.Nat.{_*_}
 use lib.ListN.{length-set}
 use borrow.Author.Tests.{lt-ltb, le-ltb}
-use Rattle.bindings_column.proofs.Records.{nine-stores}
+use Rattle.bindings.proofs.Records.{nine-stores}
 use native.Mathlib.Omega.{arith}
 
 cast-if1 : tie.Need-cast-if1

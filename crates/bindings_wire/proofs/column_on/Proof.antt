@@ -3,7 +3,7 @@ use borrow.Author.Needs.{needs}
 use Rattle.bindings_wire.proofs.column_on.Statement.{statement}
 use Rattle.bindings_wire.proofs.column_on.Tie as tie
 use mathlib.Core.Path.{sym, _∙_}
-use Rattle.bindings_wire.specs.Wire.{columnOn}
+use Rattle.bindings.specs.Wire.{columnOn}
 
 property-on-requires : tie.Need-property-on-requires
 property-on-requires c κs = search needs

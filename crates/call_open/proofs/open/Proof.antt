@@ -15,7 +15,7 @@ use Rattle.call.proofs.Opening.{open-judged, open-refused, open-done, places-no
 use mathlib.Core.Option.{some}
 use mathlib.Core.List.{List}
 use Rattle.table.specs.Seat.{opened, cursorBlock}
-use Rattle.tree_select.specs.Select.{selected}
+use Rattle.tree.specs.Select.{selected}
 use Rattle.query.specs.Open.{openedOn}
 use Rattle.query.specs.Answer.{handleFor}
 use Rattle.query.proofs.OpenLaws.{open-tree}

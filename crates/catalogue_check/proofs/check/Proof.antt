@@ -5,8 +5,8 @@ use Rattle.catalogue_check.proofs.check.Tie as tie
 use mathlib.Core.Path.{sym, _∙_}
 use mathlib.Core.Bool.{true, false}
 use native.Mathlib.Omega.{arith}
-use Rattle.catalogue_number.proofs.Inside.{reading-read}
-use Rattle.catalogue_check.proofs.CheckLaws.{too-long, no-count, by-rows}
+use Rattle.catalogue.proofs.Inside.{reading-read}
+use Rattle.catalogue.proofs.CheckLaws.{too-long, no-count, by-rows}
 
 returns : tie.Need-returns
 returns c =

@@ -8,7 +8,7 @@ use lib.ListN.{length}
 use lib.Seq.{sets}
 use Rattle.catalogue.specs.Places.{rowsEnd, placesFrom}
 use Rattle.catalogue.proofs.RowLaws.{row-inside}
-use Rattle.catalogue_check.proofs.RowsLaws.{row-gone, row-there, rows-more, rows-bad, places-more, places-bad, rows-none, places-none}
+use Rattle.catalogue.proofs.RowsLaws.{row-gone, row-there, rows-more, rows-bad, places-more, places-bad, rows-none, places-none}
 
 abbrev Inv-loop : tie.InvT-loop
 Inv-loop s count first places₀ left₀ at₀ i₀ places left at i = (at ≤ length s) × (i + left ≡ count) × (rowsEnd left s at ≡ rowsEnd count s first) × (sets places i (placesFrom left s at) ≡ sets places₀ 0 (placesFrom count s first))

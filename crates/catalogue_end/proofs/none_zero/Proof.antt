@@ -6,8 +6,8 @@ use mathlib.Core.Path.{_≡_, sym, _∙_}
 use mathlib.Core.Logic.{⊎-elim}
 use Prim.Native.Nat.{_≤_, _-_, _/_}
 use lib.ListN.{length}
-use Rattle.wire_word.proofs.Below.{every-start}
-use Rattle.catalogue_end.proofs.TextLaws.{clearBelow, clear-zero, clear-more, clear-all}
+use Rattle.lists.proofs.Below.{every-start}
+use Rattle.catalogue.proofs.TextLaws.{clearBelow, clear-zero, clear-more, clear-all}
 
 abbrev Inv-loop : tie.InvT-loop
 Inv-loop units count clear₀ i₀ clear i = (i ≤ count) × (count ≡ length units / 2) × (clear ≡ clearBelow i units)

@@ -4,7 +4,7 @@ use Rattle.catalogue_end.proofs.row_end.Statement.{statement}
 use Rattle.catalogue_end.proofs.row_end.Tie as tie
 use mathlib.Core.Path.{sym, _∙_}
 use Rattle.catalogue.specs.Places.{rowAt}
-use Rattle.catalogue_end.proofs.EndLaws.{text-gone, row-ends}
+use Rattle.catalogue.proofs.EndLaws.{text-gone, row-ends}
 
 read-requires : tie.Need-read-requires
 read-requires c κs = search needs

@@ -4,9 +4,9 @@ use Rattle.catalogue_end.proofs.text_end.Statement.{statement}
 use Rattle.catalogue_end.proofs.text_end.Tie as tie
 use mathlib.Core.Path.{sym, _∙_}
 use native.Mathlib.Omega.{arith}
-use Rattle.catalogue_number.proofs.Inside.{reading-read}
+use Rattle.catalogue.proofs.Inside.{reading-read}
 use Rattle.catalogue.specs.Places.{textAt}
-use Rattle.catalogue_end.proofs.TextLaws.{end-short, end-clear, end-zero}
+use Rattle.catalogue.proofs.TextLaws.{end-short, end-clear, end-zero}
 
 read-requires : tie.Need-read-requires
 read-requires c κs = search needs

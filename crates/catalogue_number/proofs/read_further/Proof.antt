@@ -6,9 +6,9 @@ use mathlib.Core.Path.{_≡_, sym, _∙_}
 use Prim.Native.Nat.{_+_, _*_, _-_, _/_, _≤_}
 use native.Mathlib.Omega.{arith}
 use lib.ListN.{length, drop, getD}
-use Rattle.catalogue_number.specs.Groups.{groups, further, within}
-use Rattle.catalogue_number.specs.Reading.{placed}
-use Rattle.catalogue_number.proofs.Carry.{carry, added-fits, room-kept, weight-fits, begin-over, begin-full, carry-begin, carry-zero, carry-last-over, carry-last, carry-group-over, carry-group, carry-end, carry-group-full}
+use Rattle.catalogue.specs.Groups.{groups, further, within}
+use Rattle.catalogue.specs.Reading.{placed}
+use Rattle.catalogue.proofs.Carry.{carry, added-fits, room-kept, weight-fits, begin-over, begin-full, carry-begin, carry-zero, carry-last-over, carry-last, carry-group-over, carry-group, carry-end, carry-group-full}
 
 abbrev Inv-loop : tie.InvT-loop
 Inv-loop s at low limit value₀ weight₀ room₀ i₀ value weight room i = (1 ≤ room) × (value + weight * room ≤ limit) × (placed at (within limit (further low (groups (drop (at + 1) s)))) ≡ carry value weight room i (groups (drop i s)))

@@ -4,7 +4,7 @@ use Rattle.catalogue_read.proofs.read.Statement.{statement}
 use Rattle.catalogue_read.proofs.read.Tie as tie
 use mathlib.Core.Path.{sym, _∙_}
 use native.Mathlib.Omega.{arith}
-use Rattle.catalogue_number.proofs.Carry.{reading-end, reading-over, reading-one, reading-more}
+use Rattle.catalogue.proofs.Carry.{reading-end, reading-over, reading-one, reading-more}
 
 returns : tie.Need-returns
 returns c = let a = c .before .before .args in sym (reading-end (a .limit) (a .s .now) (a .at) (c .if1 .taken))

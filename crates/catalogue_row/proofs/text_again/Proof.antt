@@ -4,7 +4,7 @@ use Rattle.catalogue_row.proofs.text_again.Statement.{statement}
 use Rattle.catalogue_row.proofs.text_again.Tie as tie
 use mathlib.Core.Path.{sym, ap, _∙_}
 use native.Mathlib.Omega.{arith}
-use Rattle.catalogue_number.proofs.Inside.{reading-read}
+use Rattle.catalogue.proofs.Inside.{reading-read}
 use Rattle.catalogue.specs.Places.{textAt}
 use Rattle.catalogue.specs.declared.TextAt.the-variants.{TextTo}
 use Rattle.catalogue.proofs.RowLaws.{text-known}

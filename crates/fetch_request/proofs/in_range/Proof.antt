@@ -2,7 +2,7 @@
 use borrow.Author.Needs.{needs}
 use Rattle.fetch_request.proofs.in_range.Statement.{statement}
 use Rattle.fetch_request.proofs.in_range.Tie as tie
-use Rattle.fetch_request.proofs.Ranges.{low, high, small, large, uneven, beyond, last}
+use Rattle.fetch.proofs.Ranges.{low, high, small, large, uneven, beyond, last}
 
 returns : tie.Need-returns
 returns c = let a = c .before .args in low (a .reserved) (a .size) (a .base) (a .backward) (c .if1 .taken)

@@ -2,11 +2,11 @@
 use borrow.Author.Needs.{needs}
 use Rattle.fetch_request.proofs.read.Statement.{statement}
 use Rattle.fetch_request.proofs.read.Tie as tie
-use Rattle.fetch_request.specs.declared.Asking.the-variants.{Asked}
+use Rattle.fetch.specs.declared.Asking.the-variants.{Asked}
 use Prim.Native.Nat.{ℕ}
-use Rattle.fetch_request.proofs.Ranges.{short, unfit, seek-unfit, read-whole, reserved-small}
-use Rattle.fetch_request.specs.Asking.{asking}
-use Rattle.fetch_request.specs.Request.{asked}
+use Rattle.fetch.proofs.Ranges.{short, unfit, seek-unfit, read-whole, reserved-small}
+use Rattle.fetch.specs.Asking.{asking}
+use Rattle.fetch.specs.Request.{asked}
 use borrow.Author.Tests.{not-true, not-false}
 use mathlib.Core.Path.{sym, ap, _∙_}
 

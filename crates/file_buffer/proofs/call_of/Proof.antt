@@ -4,7 +4,7 @@ use Prim.Native.Nat.{_-_}
 use native.Mathlib.Omega.{arith}
 use lib.ListN.{length, take}
 use borrow.Author.Tests.{lt-ltb, le-ltb}
-use Rattle.file_buffer.proofs.Fitting.{part-length, fits-more}
+use Rattle.line.proofs.Fitting.{part-length, fits-more}
 use borrow.Author.Needs.{needs}
 use Rattle.file_buffer.proofs.call_of.Statement.{statement}
 use Rattle.file_buffer.proofs.call_of.Tie as tie

@@ -3,7 +3,7 @@ use mathlib.Core.Path.{_≡_}
 use Prim.Native.Nat.{_≤_, _-_}
 use native.Mathlib.Omega.{arith}
 use lib.ListN.{length}
-use Rattle.file_buffer.specs.Room.{Stands}
+use Rattle.line.specs.LineRoom.{Stands}
 use borrow.Author.Needs.{needs}
 use Rattle.file_serve.proofs.serve_chunk.Statement.{statement}
 use Rattle.file_serve.proofs.serve_chunk.Tie as tie

@@ -1,7 +1,7 @@
 -- Between two reads the buffers have their lengths, and the place stands. Assumes nothing.
 use mathlib.Core.Path.{_≡_}
 use lib.ListN.{length}
-use Rattle.file_buffer.specs.Room.{Stands}
+use Rattle.line.specs.LineRoom.{Stands}
 use borrow.Author.Needs.{needs}
 use Rattle.file_serve.proofs.serve_file.Statement.{statement}
 use Rattle.file_serve.proofs.serve_file.Tie as tie

@@ -2,10 +2,10 @@
 use native.Mathlib.Omega.{arith}
 use lib.ListN.{take}
 use lib.Seq.{length-take-le}
-use Rattle.line_text.proofs.Numeral.{numeral-short}
-use Rattle.line_text.proofs.TextLaws.{hex-short, put-then}
-use Rattle.line_answer.specs.Answer.{messageText}
-use Rattle.line_answer.proofs.Short.{room-after}
+use Rattle.line.proofs.Numeral.{numeral-short}
+use Rattle.line.proofs.TextLaws.{hex-short, put-then}
+use Rattle.line.specs.Answer.{messageText}
+use Rattle.line.proofs.Short.{room-after}
 use borrow.Author.Needs.{needs}
 use Rattle.line_answer.proofs.put_message.Statement.{statement}
 use Rattle.line_answer.proofs.put_message.Tie as tie

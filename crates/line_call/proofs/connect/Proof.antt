@@ -1,7 +1,7 @@
 -- The words are read from left to right. Assumes nothing.
 use mathlib.Core.Path.{sym, _∙_}
 use native.Mathlib.Omega.{arith}
-use Rattle.line_call.specs.Line.{connectFrom}
+use Rattle.line.specs.Line.{connectFrom}
 use borrow.Author.Needs.{needs}
 use Rattle.line_call.proofs.connect.Statement.{statement}
 use Rattle.line_call.proofs.connect.Tie as tie

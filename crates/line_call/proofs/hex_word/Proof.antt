@@ -2,7 +2,7 @@
 use mathlib.Core.Path.{sym, _∙_}
 use native.Mathlib.Omega.{arith}
 use borrow.Author.Tests.{not-true, not-false}
-use Rattle.line_call.proofs.LineLaws.{hex-missing, hex-dash, hex-bad, hex-long, hex-found}
+use Rattle.line.proofs.LineLaws.{hex-missing, hex-dash, hex-bad, hex-long, hex-found}
 use borrow.Author.Needs.{needs}
 use Rattle.line_call.proofs.hex_word.Statement.{statement}
 use Rattle.line_call.proofs.hex_word.Tie as tie

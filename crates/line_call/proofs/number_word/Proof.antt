@@ -1,9 +1,9 @@
 -- The word is found, then read. Assumes nothing.
 use mathlib.Core.Path.{sym, _∙_}
 use native.Mathlib.Omega.{arith}
-use Rattle.line_word.specs.Digits.{decimal}
-use Rattle.line_call.specs.Line.{between}
-use Rattle.line_call.proofs.LineLaws.{number-missing, number-found, told-bad, told-is}
+use Rattle.line.specs.Digits.{decimal}
+use Rattle.line.specs.Line.{between}
+use Rattle.line.proofs.LineLaws.{number-missing, number-found, told-bad, told-is}
 use borrow.Author.Needs.{needs}
 use Rattle.line_call.proofs.number_word.Statement.{statement}
 use Rattle.line_call.proofs.number_word.Tie as tie

@@ -1,8 +1,8 @@
 -- The first word names the call. Assumes nothing.
 use mathlib.Core.Path.{sym, _∙_}
 use native.Mathlib.Omega.{arith}
-use Rattle.line_call.specs.Line.{named}
-use Rattle.line_call.proofs.LineLaws.{call-none, call-named}
+use Rattle.line.specs.Line.{named}
+use Rattle.line.proofs.LineLaws.{call-none, call-named}
 use borrow.Author.Needs.{needs}
 use Rattle.line_call.proofs.read.Statement.{statement}
 use Rattle.line_call.proofs.read.Tie as tie

@@ -2,7 +2,7 @@
 use mathlib.Core.Path.{sym, _∙_}
 use native.Mathlib.Omega.{arith}
 use borrow.Author.Tests.{lt-ltb, le-ltb}
-use Rattle.line_call.specs.Line.{wordFrom}
+use Rattle.line.specs.Line.{wordFrom}
 use borrow.Author.Needs.{needs}
 use Rattle.line_call.proofs.word.Statement.{statement}
 use Rattle.line_call.proofs.word.Tie as tie

@@ -7,8 +7,8 @@ use Prim.Native.Nat.{_+_, _-_, _≤_}
 use native.Mathlib.Omega.{arith}
 use borrow.Author.Tests.{not-true, not-false}
 use lib.ListN.{length, drop}
-use Rattle.line_run.specs.Runs.{run, separates}
-use Rattle.line_run.proofs.RunLaws.{run-more, run-stops, run-ends}
+use Rattle.line.specs.Runs.{run, separates}
+use Rattle.line.proofs.RunLaws.{run-more, run-stops, run-ends}
 
 abbrev Inv-loop : tie.InvT-loop
 Inv-loop s at i₀ i = (at ≤ i) × (i ≤ length s) × (at + run separates (drop at s) ≡ i + run separates (drop i s))

@@ -6,8 +6,8 @@ use mathlib.Core.Path.{_≡_, refl, sym, ap, _∙_}
 use Prim.Native.Nat.{_+_, _-_, _≤_}
 use native.Mathlib.Omega.{arith}
 use lib.ListN.{length, drop}
-use Rattle.line_run.specs.Runs.{run, opposite, inWord}
-use Rattle.line_run.proofs.RunLaws.{run-more, run-stops, run-ends}
+use Rattle.line.specs.Runs.{run, opposite, inWord}
+use Rattle.line.proofs.RunLaws.{run-more, run-stops, run-ends}
 
 abbrev Inv-loop : tie.InvT-loop
 Inv-loop s at i₀ i = (at ≤ i) × (i ≤ length s) × (at + run inWord (drop at s) ≡ i + run inWord (drop i s))

@@ -6,8 +6,8 @@ use mathlib.Core.Path.{_≡_, refl, sym, _∙_}
 use Prim.Native.Nat.{_-_, _≤_}
 use native.Mathlib.Omega.{arith}
 use lib.ListN.{length, drop}
-use Rattle.line_run.specs.Runs.{sameBytes}
-use Rattle.line_run.proofs.RunLaws.{lengths-differ, same-more, same-stops, same-ends}
+use Rattle.line.specs.Runs.{sameBytes}
+use Rattle.line.proofs.RunLaws.{lengths-differ, same-more, same-stops, same-ends}
 
 abbrev Inv-loop : tie.InvT-loop
 Inv-loop a b i₀ i = (i ≤ length a) × (sameBytes a b ≡ sameBytes (drop i a) (drop i b))

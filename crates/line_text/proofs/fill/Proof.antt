@@ -6,7 +6,7 @@ use native.Mathlib.Omega.{arith}
 use lib.ListN.{length, drop, replicate, length-set}
 use lib.Seq.{drop-length}
 use borrow.Author.Fill.{fill-more}
-use Rattle.line_text.specs.Text.{fillByte}
+use Rattle.line.specs.Text.{fillByte}
 use borrow.Author.Needs.{needs}
 use Rattle.line_text.proofs.fill.Statement.{statement}
 use Rattle.line_text.proofs.fill.Tie as tie

@@ -2,7 +2,7 @@
 use borrow.Author.Needs.{needs}
 use Rattle.line_text.proofs.put_decimal.Statement.{statement}
 use Rattle.line_text.proofs.put_decimal.Tie as tie
-use Rattle.line_text.proofs.Numeral.{numeral-is}
+use Rattle.line.proofs.Numeral.{numeral-is}
 
 decimal-requires : tie.Need-decimal-requires
 decimal-requires c κs = search needs

@@ -1,5 +1,5 @@
 -- No bytes, or some. Assumes nothing.
-use Rattle.line_text.proofs.TextLaws.{text-none, text-some}
+use Rattle.line.proofs.TextLaws.{text-none, text-some}
 use borrow.Author.Needs.{needs}
 use Rattle.line_text.proofs.put_hex.Statement.{statement}
 use Rattle.line_text.proofs.put_hex.Tie as tie

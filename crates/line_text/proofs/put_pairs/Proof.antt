@@ -4,9 +4,9 @@ use Prim.Native.Nat.{_+_, _*_, _≤_, _-_}
 use native.Mathlib.Omega.{arith}
 use lib.ListN.{length, getD, length-set}
 use lib.Seq.{paste, paste-zero}
-use Rattle.wire_lay.proofs.Lay.{copied}
-use Rattle.line_text.specs.Text.{hexPairs}
-use Rattle.line_text.proofs.TextLaws.{pairs-length, pair-high, pair-low, pasted-two}
+use Rattle.wire.proofs.Lay.{copied}
+use Rattle.line.specs.Text.{hexPairs}
+use Rattle.line.proofs.TextLaws.{pairs-length, pair-high, pair-low, pasted-two}
 use borrow.Author.Needs.{needs}
 use Rattle.line_text.proofs.put_pairs.Statement.{statement}
 use Rattle.line_text.proofs.put_pairs.Tie as tie

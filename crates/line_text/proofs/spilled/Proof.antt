@@ -4,9 +4,9 @@ use mathlib.Core.Logic.{⊎-elim}
 use Prim.Native.Nat.{_-_}
 use native.Mathlib.Omega.{arith}
 use lib.ListN.{length, drop}
-use Rattle.wire_word.specs.Below.{either}
-use Rattle.line_text.specs.Text.{changed}
-use Rattle.line_text.proofs.TextLaws.{changed-here, changed-later, changed-never, found-now, found-only}
+use Rattle.lists.specs.Below.{either}
+use Rattle.line.specs.Text.{changed}
+use Rattle.line.proofs.TextLaws.{changed-here, changed-later, changed-never, found-now, found-only}
 use borrow.Author.Needs.{needs}
 use Rattle.line_text.proofs.spilled.Statement.{statement}
 use Rattle.line_text.proofs.spilled.Tie as tie

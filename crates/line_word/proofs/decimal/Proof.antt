@@ -6,8 +6,8 @@ use mathlib.Core.Path.{_≡_, refl, sym, ap, _∙_}
 use Prim.Native.Nat.{_+_, _-_, _*_, _≤_}
 use native.Mathlib.Omega.{arith}
 use lib.ListN.{length, getD, drop}
-use Rattle.line_word.specs.Digits.{decimal, spelled, within, told, numberMost}
-use Rattle.line_word.proofs.DigitLaws.{stays-past, below-digits, above-digits, digit-more, digits-end}
+use Rattle.line.specs.Digits.{decimal, spelled, within, told, numberMost}
+use Rattle.line.proofs.DigitLaws.{stays-past, below-digits, above-digits, digit-more, digits-end}
 
 abbrev Inv-loop : tie.InvT-loop
 Inv-loop s value₀ i₀ value i = (i ≤ length s) × (value ≤ numberMost) × (decimal s ≡ within (spelled value (drop i s)))

@@ -8,8 +8,8 @@ use Prim.Native.Nat.{_-_, _/_, _≤_}
 use native.Mathlib.Omega.{arith}
 use lib.ListN.{length, getD, take, drop, length-set}
 use lib.Seq.{take-all}
-use Rattle.line_word.specs.Digits.{hexBytes}
-use Rattle.line_word.proofs.DigitLaws.{hex-count, hex-at, laid-more}
+use Rattle.line.specs.Digits.{hexBytes}
+use Rattle.line.proofs.DigitLaws.{hex-count, hex-at, laid-more}
 
 abbrev Inv-loop : tie.InvT-loop
 Inv-loop s out₀ i₀ out i = (i ≤ length s / 2) × (length out ≡ length out₀) × (out ≡ take i (hexBytes s) ++ drop i out₀)

@@ -1,7 +1,7 @@
 -- A word of one byte, and any other. Assumes nothing.
 use borrow.Author.Needs.{needs}
 use mathlib.Core.Path.{sym}
-use Rattle.line_word.proofs.DigitLaws.{no-dash, one-dash}
+use Rattle.line.proofs.DigitLaws.{no-dash, one-dash}
 use Rattle.line_word.proofs.is_dash.Statement.{statement}
 use Rattle.line_word.proofs.is_dash.Tie as tie
 

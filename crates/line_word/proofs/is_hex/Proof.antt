@@ -7,10 +7,10 @@ use Prim.Native.Nat.{_-_, _≤_}
 use native.Mathlib.Omega.{arith}
 use lib.Dec.{eqb}
 use borrow.Author.Tests.{eqb-true, eqb-false}
-use Rattle.wire_word.proofs.Below.{by-test}
+use Rattle.lists.proofs.Below.{by-test}
 use lib.ListN.{length, drop}
-use Rattle.line_word.specs.Digits.{isHex}
-use Rattle.line_word.proofs.DigitLaws.{hex-more, hex-first, hex-second, hex-left, hex-end}
+use Rattle.line.specs.Digits.{isHex}
+use Rattle.line.proofs.DigitLaws.{hex-more, hex-first, hex-second, hex-left, hex-end}
 
 abbrev Inv-loop : tie.InvT-loop
 Inv-loop s i₀ i = (i ≤ length s) × (isHex s ≡ isHex (drop i s))

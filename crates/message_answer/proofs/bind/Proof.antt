@@ -6,9 +6,9 @@ use mathlib.Core.Path.{sym, ap, _∙_}
 use Prim.Native.Nat.{ℕ}
 use native.Mathlib.Omega.{arith}
 use borrow.Author.Tests.{not-true, not-false}
-use Rattle.bindings_read.proofs.Judged.{told-fit}
+use Rattle.bindings.proofs.ReadJudged.{told-fit}
 use Rattle.table.specs.Seat.{seatIn, cursorIn}
-use Rattle.message.specs.Message.{isOpen}
+use Rattle.table.specs.Open.{isOpen}
 use Rattle.message.proofs.Answering.{block-is, refused-answers, body-refused}
 use Rattle.message.proofs.Binding.{not-read, not-opened, not-fit, bound-answers, told-none, told-some, rebound-is}
 

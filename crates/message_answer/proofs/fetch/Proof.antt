@@ -4,10 +4,10 @@ use Rattle.message_answer.proofs.fetch.Statement.{statement}
 use Rattle.message_answer.proofs.fetch.Tie as tie
 use Rattle.message.proofs.Rows.{not-asked, rows-closed, found-inside, ready-at, refusal-small, refused-at, answered-at}
 use Rattle.message.proofs.Answering.{block-is, refused-answers, body-refused}
-use Rattle.message.specs.Message.{isOpen}
+use Rattle.table.specs.Open.{isOpen}
 use Rattle.fetch.specs.Ready.{rowsOf}
-use Rattle.fetch_request.proofs.Ranges.{request-handle, asked-is, malformed-is}
-use Rattle.fetch_request.specs.Request.{request}
+use Rattle.fetch.proofs.Ranges.{request-handle, asked-is, malformed-is}
+use Rattle.fetch.specs.Request.{request}
 use Rattle.table.specs.Seat.{seatIn, cursorIn}
 use Rattle.catalogue.specs.Plain.{catalogue}
 use borrow.Author.Tests.{not-true, not-false}

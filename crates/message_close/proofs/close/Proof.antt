@@ -11,7 +11,7 @@ use Rattle.table.specs.Layout.{cursorSize, put}
 use Rattle.table.specs.Seat.{zeros}
 use Rattle.table.proofs.Tables.{part-length}
 use Rattle.table.proofs.Judging.{part-is}
-use Rattle.message.proofs.Handles.{place-inside, put-is}
+use Rattle.table.proofs.Handles.{place-inside, put-is}
 
 cursor-at-requires : tie.Need-cursor-at-requires
 cursor-at-requires c κs = search needs

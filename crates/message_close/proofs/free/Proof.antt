@@ -8,13 +8,13 @@ use native.Mathlib.Omega.{arith}
 use borrow.Author.Tests.{not-true, not-false}
 use Rattle.table.specs.Layout.{cursorSize, cursorPlace, put}
 use Rattle.table.specs.Seat.{cursorBlock, seatIn, cursorIn}
-use Rattle.message.specs.Message.{isOpen}
+use Rattle.table.specs.Open.{isOpen}
 use Rattle.message.proofs.Answering.{block-is, refused-answers, body-refused}
 use Rattle.message.proofs.Bodies.{not-four, not-open, freed-answers}
 use mathlib.Core.Option.{none}
 use mathlib.Core.List.{List}
-use Rattle.wire_word.specs.Word.{le}
-use Rattle.wire_lay.specs.Laid.{lay}
+use Rattle.wire.specs.Word.{le}
+use Rattle.wire.specs.Laid.{lay}
 
 refuse-requires : tie.Need-refuse-requires
 refuse-requires c κs = search needs

@@ -4,7 +4,7 @@ use Rattle.message_gate.proofs.refuse.Statement.{statement}
 use Rattle.message_gate.proofs.refuse.Tie as tie
 use mathlib.Core.Path.{refl, ap, _∙_}
 use Prim.Native.Nat.{ℕ}
-use Rattle.wire_lay.specs.Laid.{lay, fourWords}
+use Rattle.wire.specs.Laid.{lay, fourWords}
 
 status-requires : tie.Need-status-requires
 status-requires c κs = search needs

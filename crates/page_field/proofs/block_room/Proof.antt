@@ -6,8 +6,8 @@ use Rattle.page.proofs.Column.{found-stands, found-is}
 use Rattle.page.proofs.Fields.{field-small}
 use Rattle.page.specs.Cell.{blockSize}
 use Rattle.page.specs.Field.{Field}
-use Rattle.bindings_column.specs.Fit.{isUsed}
-use Rattle.wire_word.specs.Below.{pick}
+use Rattle.bindings.specs.Fit.{isUsed}
+use Rattle.lists.specs.Below.{pick}
 use mathlib.Core.Path.{_∙_, ap}
 
 field-requires : tie.Need-field-requires

@@ -2,11 +2,11 @@
 use borrow.Author.Needs.{needs}
 use Rattle.page_fill.proofs.lay_rows.Statement.{statement}
 use Rattle.page_fill.proofs.lay_rows.Tie as tie
-use Rattle.page_fill.proofs.Steps.{rows-none, returned-start, returned-asked, returned-left, count-full, count-step, lay-step, lay-done, lay-start}
-use Rattle.page_fill.proofs.Bound.{column-in, there-at}
-use Rattle.page_row.specs.Rows.{rowsAt, returned, rowsSpans}
-use Rattle.wire_lay.specs.Laid.{lays}
-use Rattle.bindings_column.specs.Column.{columnAt, columnsOf}
+use Rattle.page.proofs.FillSteps.{rows-none, returned-start, returned-asked, returned-left, count-full, count-step, lay-step, lay-done, lay-start}
+use Rattle.page.proofs.RowsBound.{column-in, there-at}
+use Rattle.page.specs.Rows.{rowsAt, returned, rowsSpans}
+use Rattle.wire.specs.Laid.{lays}
+use Rattle.bindings.specs.Column.{columnAt, columnsOf}
 use lib.ListN.{length, take, drop}
 use native.Mathlib.Omega.{arith}
 use Prim.Native.Nat.{_+_, _-_, _≤_}

@@ -2,7 +2,7 @@
 use borrow.Author.Needs.{needs}
 use Rattle.page_lay.proofs.lay_block.Statement.{statement}
 use Rattle.page_lay.proofs.lay_block.Tie as tie
-use Rattle.wire_lay.specs.Laid.{lays}
+use Rattle.wire.specs.Laid.{lays}
 use Rattle.page.specs.Cell.{blockSpan}
 use Rattle.page.specs.Field.{fieldSeen}
 use Rattle.page.proofs.Fields.{laid-unused, block-laid, block-fits}

@@ -5,7 +5,7 @@ use Rattle.page_lay.proofs.lay_length.Tie as tie
 use native.Mathlib.Omega.{arith}
 use Rattle.page.proofs.Fields.{laid-unused, laid-used}
 use Prim.Native.Nat.{_+_}
-use Rattle.wire_word.specs.Word.{le}
+use Rattle.wire.specs.Word.{le}
 
 returns : tie.Need-returns
 returns c = let a = c .before .before .before .args in laid-unused (a .reply .now) (a .column .length .used) _ (c .if1 .taken)

@@ -3,9 +3,9 @@ use borrow.Author.Needs.{needs}
 use Rattle.page_lay.proofs.lay_variant.Statement.{statement}
 use Rattle.page_lay.proofs.lay_variant.Tie as tie
 use native.Mathlib.Omega.{arith}
-use Rattle.wire_word.specs.Word.{le}
-use Rattle.wire_lay.proofs.Lay.{lay-next}
-use Rattle.wire_lay.proofs.Little.{le-length}
+use Rattle.wire.specs.Word.{le}
+use Rattle.wire.proofs.Lay.{lay-next}
+use Rattle.wire.proofs.Little.{le-length}
 
 lay-long-requires : tie.Need-lay-long-requires
 lay-long-requires c κs = search needs

@@ -7,14 +7,14 @@ use Prim.Native.Nat.{_+_, _-_, _≤_}
 use native.Mathlib.Omega.{arith}
 use lib.ListN.{length}
 use Rattle.catalogue.specs.Places.{rowOf}
-use Rattle.bindings_column.specs.Column.{columnsFrom, columnsOf}
-use Rattle.bindings_column.specs.declared.Column.{Column}
-use Rattle.wire_lay.specs.Laid.{lays}
+use Rattle.bindings.specs.Column.{columnsFrom, columnsOf}
+use Rattle.bindings.specs.declared.Column.{Column}
+use Rattle.wire.specs.Laid.{lays}
 use Rattle.page.specs.Cell.{blockRoom}
 use Rattle.page.proofs.Fields.{still-in}
-use Rattle.page_row.specs.Rows.{blocks, rowSpans}
-use Rattle.page_row.proofs.Found.{fields-stand, fields-row}
-use Rattle.page_row.proofs.Steps.{blocks-more, blocks-none, spans-none, row-step}
+use Rattle.page.specs.Rows.{blocks, rowSpans}
+use Rattle.page.proofs.Found.{fields-stand, fields-row}
+use Rattle.page.proofs.RowSteps.{blocks-more, blocks-none, spans-none, row-step}
 
 abbrev Inv-loop : tie.InvT-loop
 Inv-loop reply₀ s at fields words bound base row top place₀ k₀ left₀ reply place k left = (k + left ≡ bound) × (length reply ≡ length reply₀) × (place ≤ top) × (blocks (columnsFrom left k words) (rowOf s fields) ≤ place) × (place - blocks (columnsFrom left k words) (rowOf s fields) ≡ top - blocks (columnsOf bound words) (rowOf s fields)) × (lays reply (rowSpans base row place (columnsFrom left k words) (rowOf s fields)) ≡ lays reply₀ (rowSpans base row top (columnsOf bound words) (rowOf s fields)))

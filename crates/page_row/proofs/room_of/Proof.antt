@@ -2,8 +2,8 @@
 use borrow.Author.Needs.{needs}
 use Rattle.page_row.proofs.room_of.Statement.{statement}
 use Rattle.page_row.proofs.room_of.Tie as tie
-use Rattle.page_row.specs.Rows.{blocks}
-use Rattle.bindings_column.specs.Column.{columnsOf}
+use Rattle.page.specs.Rows.{blocks}
+use Rattle.bindings.specs.Column.{columnsOf}
 use Rattle.catalogue.specs.Places.{RowThere, rowSeen}
 use Prim.Native.Nat.{ℕ, _+_}
 use mathlib.Core.Path.{sym, ap, subst, _∙_}

@@ -6,14 +6,14 @@ use mathlib.Core.Path.{_≡_, ap, _∙_}
 use Prim.Native.Nat.{_+_, _*_, _≤_}
 use native.Mathlib.Omega.{arith}
 use Rattle.catalogue.specs.Places.{rowOf}
-use Rattle.bindings_column.specs.Column.{columnsFrom, columnsOf}
-use Rattle.bindings_column.specs.declared.Column.{Column}
+use Rattle.bindings.specs.Column.{columnsFrom, columnsOf}
+use Rattle.bindings.specs.declared.Column.{Column}
 use Rattle.page.specs.Cell.{blockRoom}
 use Rattle.page.proofs.Fields.{stand-small}
-use Rattle.page_row.specs.Rows.{blocks}
-use Rattle.page_row.specs.Ready.{blockMost}
-use Rattle.page_row.proofs.Found.{room-small, fields-stand, fields-row}
-use Rattle.page_row.proofs.Steps.{blocks-more, blocks-none}
+use Rattle.page.specs.Rows.{blocks}
+use Rattle.page.specs.RowReady.{blockMost}
+use Rattle.page.proofs.Found.{room-small, fields-stand, fields-row}
+use Rattle.page.proofs.RowSteps.{blocks-more, blocks-none}
 
 abbrev Inv-loop : tie.InvT-loop
 Inv-loop s at fields words bound total₀ k₀ left₀ total k left = (k + left ≡ bound) × (total ≤ blockMost * k) × (blocks (columnsOf bound words) (rowOf s fields) ≡ total + blocks (columnsFrom left k words) (rowOf s fields))

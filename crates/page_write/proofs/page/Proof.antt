@@ -2,15 +2,15 @@
 use borrow.Author.Needs.{needs}
 use Rattle.page_write.proofs.page.Statement.{statement}
 use Rattle.page_write.proofs.page.Tie as tie
-use Rattle.bindings_column.proofs.Sound.{fit-sound}
-use Rattle.page_write.proofs.Whole.{page-whole}
-use Rattle.page_write.proofs.Greatest.{returned-few}
-use Rattle.page_write.proofs.Bound.{bound-few, bound-in}
-use Rattle.page_row.specs.Rows.{rowsAt}
-use Rattle.page_write.specs.Page.{rowsMessage}
-use Rattle.bindings_column.specs.Column.{columnsOf}
+use Rattle.bindings.proofs.Sound.{fit-sound}
+use Rattle.page.proofs.Whole.{page-whole}
+use Rattle.page.proofs.Greatest.{returned-few}
+use Rattle.page.proofs.ColumnsBound.{bound-few, bound-in}
+use Rattle.page.specs.Rows.{rowsAt}
+use Rattle.page.specs.Page.{rowsMessage}
+use Rattle.bindings.specs.Column.{columnsOf}
 use native.Mathlib.Omega.{arith}
-use Rattle.wire_lay.specs.Laid.{lay, header}
+use Rattle.wire.specs.Laid.{lay, header}
 use Prim.Native.Nat.{ℕ}
 use mathlib.Core.Path.{ap, _∙_}
 

@@ -4,7 +4,7 @@ use Rattle.query_open.proofs.fill.Statement.{statement}
 use Rattle.query_open.proofs.fill.Tie as tie
 use mathlib.Core.Path.{_∙_}
 use native.Mathlib.Omega.{arith}
-use Rattle.tree_select.specs.Select.{selected}
+use Rattle.tree.specs.Select.{selected}
 use Rattle.query.proofs.OpenLaws.{selected-few, filled, closed-length, filled-length}
 
 sub-select : tie.Need-sub-select

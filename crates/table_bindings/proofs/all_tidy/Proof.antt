@@ -5,10 +5,10 @@ use borrow.Author.Needs.{needs}
 use mathlib.Core.Path.{_≡_, sym, _∙_}
 use Prim.Native.Nat.{_+_}
 use borrow.Author.Tests.{not-true, not-false}
-use Rattle.bindings_column.specs.Each.{every}
-use Rattle.bindings_column.specs.Column.{columnsFrom, columnsOf}
-use Rattle.bindings_column.proofs.Each.{every-more, every-stop, every-none}
-use Rattle.bindings_column.proofs.Columns.{from-more, from-none}
+use Rattle.lists.specs.Every.{every}
+use Rattle.bindings.specs.Column.{columnsFrom, columnsOf}
+use Rattle.lists.proofs.Every.{every-more, every-stop, every-none}
+use Rattle.bindings.proofs.Columns.{from-more, from-none}
 use Rattle.table.specs.Well.{tidy}
 
 abbrev Inv-loop : tie.InvT-loop

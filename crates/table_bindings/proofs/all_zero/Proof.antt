@@ -8,8 +8,8 @@ use Prim.Native.Nat.{_≤_, _-_, ℕ}
 use lib.Dec.{eqb}
 use lib.ListN.{length, getD}
 use borrow.Author.Tests.{eq-eqb, ne-eqb}
-use Rattle.wire_word.specs.Below.{everyBelow}
-use Rattle.wire_word.proofs.Below.{every-next, every-next-not, every-start}
+use Rattle.lists.specs.Below.{everyBelow}
+use Rattle.lists.proofs.Below.{every-next, every-next-not, every-start}
 
 abbrev Inv-loop : tie.InvT-loop
 Inv-loop words clear₀ i₀ clear i = (i ≤ length words) × (clear ≡ everyBelow i (λ k. eqb (getD words k 0) 0))

@@ -5,8 +5,8 @@ use Rattle.table_bindings.proofs.bound_well.Tie as tie
 use mathlib.Core.Path.{sym, _∙_}
 use native.Mathlib.Omega.{arith}
 use borrow.Author.Tests.{not-true, not-false}
-use Rattle.wire_word.proofs.Below.{both-stop, both-go}
-use Rattle.wire_word.proofs.Words.{rest}
+use Rattle.lists.proofs.Below.{both-stop, both-go}
+use Rattle.wire.proofs.Words.{rest}
 use Rattle.table.proofs.Judging.{fit-count}
 use Prim.Native.Nat.{_*_}
 

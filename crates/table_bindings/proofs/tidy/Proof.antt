@@ -4,7 +4,7 @@ use Rattle.table_bindings.proofs.tidy.Statement.{statement}
 use Rattle.table_bindings.proofs.tidy.Tie as tie
 use mathlib.Core.Path.{sym, _∙_}
 use borrow.Author.Tests.{not-true, not-false}
-use Rattle.wire_word.proofs.Below.{both-stop, both-go}
+use Rattle.lists.proofs.Below.{both-stop, both-go}
 
 mul-at : tie.Need-mul-at
 mul-at c = search needs

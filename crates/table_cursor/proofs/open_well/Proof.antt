@@ -4,8 +4,8 @@ use Rattle.table_cursor.proofs.open_well.Statement.{statement}
 use Rattle.table_cursor.proofs.open_well.Tie as tie
 use mathlib.Core.Path.{sym, _∙_}
 use borrow.Author.Tests.{lt-leb, le-leb, not-true, not-false}
-use Rattle.wire_word.proofs.Below.{both-stop, both-go}
-use Rattle.wire_word.proofs.Words.{rest}
+use Rattle.lists.proofs.Below.{both-stop, both-go}
+use Rattle.wire.proofs.Words.{rest}
 
 shared-slice-read-count : tie.Need-shared-slice-read-count
 shared-slice-read-count c = search needs

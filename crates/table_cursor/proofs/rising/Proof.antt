@@ -9,8 +9,8 @@ use native.Mathlib.Omega.{arith}
 use lib.Dec.{ltb}
 use lib.ListN.{length, getD}
 use borrow.Author.Tests.{lt-ltb, le-ltb}
-use Rattle.wire_word.specs.Below.{everyBelow}
-use Rattle.wire_word.proofs.Below.{every-next, every-next-not, every-start}
+use Rattle.lists.specs.Below.{everyBelow}
+use Rattle.lists.proofs.Below.{every-next, every-next-not, every-start}
 
 abbrev Inv-loop : tie.InvT-loop
 Inv-loop rows last rises₀ i₀ rises i = (i ≤ last) × (last + 1 ≡ length rows) × (rises ≡ everyBelow i (λ k. ltb (getD rows k 0) (getD rows (k + 1) 0)))

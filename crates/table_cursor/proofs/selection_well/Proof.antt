@@ -4,8 +4,8 @@ use Rattle.table_cursor.proofs.selection_well.Statement.{statement}
 use Rattle.table_cursor.proofs.selection_well.Tie as tie
 use mathlib.Core.Path.{sym, _∙_}
 use borrow.Author.Tests.{not-true, not-false}
-use Rattle.wire_word.proofs.Below.{both-stop, both-go}
-use Rattle.wire_word.proofs.Words.{rest}
+use Rattle.lists.proofs.Below.{both-stop, both-go}
+use Rattle.wire.proofs.Words.{rest}
 use native.Mathlib.Nat.{sub-zero}
 
 sub-rising : tie.Need-sub-rising

@@ -2,7 +2,7 @@
 use Rattle.table_handle.proofs.cursor_at.Statement.{statement}
 use Rattle.table_handle.proofs.cursor_at.Tie as tie
 use mathlib.Core.Path.{sym}
-use Rattle.message.proofs.Handles.{place-first, place-second}
+use Rattle.table.proofs.Handles.{place-first, place-second}
 
 returns : tie.Need-returns
 returns c = sym (place-first (c .before .args .handle) (c .if1 .taken))

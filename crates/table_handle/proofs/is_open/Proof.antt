@@ -3,7 +3,7 @@ use borrow.Author.Needs.{needs}
 use Rattle.table_handle.proofs.is_open.Statement.{statement}
 use Rattle.table_handle.proofs.is_open.Tie as tie
 use mathlib.Core.Path.{sym}
-use Rattle.message.proofs.Handles.{open-first, open-second, open-none}
+use Rattle.table.proofs.Handles.{open-first, open-second, open-none}
 
 shared-slice-read-result : tie.Need-shared-slice-read-result
 shared-slice-read-result c = search needs

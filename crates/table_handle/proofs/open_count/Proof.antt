@@ -5,7 +5,7 @@ use Rattle.table_handle.proofs.open_count.Tie as tie
 use mathlib.Core.Path.{sym, _∙_}
 use mathlib.Core.Bool.{true, false}
 use Rattle.table.specs.Seat.{seatIn}
-use Rattle.message.proofs.Handles.{count-two}
+use Rattle.table.proofs.Handles.{count-two}
 
 is-open-requires : tie.Need-is-open-requires
 is-open-requires c κs = search needs

@@ -9,7 +9,7 @@ use Prim.Native.Nat.{ℕ, _≤_, _<_, _-_, _*_}
 use native.Mathlib.Omega.{arith}
 use borrow.Author.Count.{below-none, below-more}
 use borrow.Author.Tests.{not-true, not-false}
-use Rattle.wire_word.proofs.Below.{every-shown, every-broken}
+use Rattle.lists.proofs.Below.{every-shown, every-broken}
 use Rattle.table.specs.Layout.{seatSize, blockOf}
 use Rattle.table.specs.Seat.{seatOf}
 use Rattle.table.specs.Well.{seatWell, seatBelow, tableBelow}

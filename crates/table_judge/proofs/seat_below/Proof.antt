@@ -4,7 +4,7 @@ use Rattle.table_judge.proofs.seat_below.Statement.{statement}
 use Rattle.table_judge.proofs.seat_below.Tie as tie
 use mathlib.Core.Path.{sym, _∙_}
 use borrow.Author.Tests.{not-true, not-false}
-use Rattle.wire_word.proofs.Below.{both-stop, both-go}
+use Rattle.lists.proofs.Below.{both-stop, both-go}
 use Rattle.table.proofs.Bounds.{below-gone, below-seated, seat-parts}
 use Rattle.table.proofs.Seats.{first-length, second-length}
 

@@ -4,7 +4,7 @@ use Rattle.table_judge.proofs.seat_well.Statement.{statement}
 use Rattle.table_judge.proofs.seat_well.Tie as tie
 use mathlib.Core.Path.{sym, _∙_}
 use borrow.Author.Tests.{not-true, not-false}
-use Rattle.wire_word.proofs.Below.{both-stop, both-go}
+use Rattle.lists.proofs.Below.{both-stop, both-go}
 use Rattle.table.specs.Well.{seatWell}
 use Rattle.table.proofs.Judging.{flag-unset, flag-set, flag-bad}
 

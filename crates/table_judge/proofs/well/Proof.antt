@@ -9,7 +9,7 @@ use native.Mathlib.Omega.{arith}
 use lib.ListN.{length}
 use borrow.Author.Count.{below-none, below-more}
 use borrow.Author.Tests.{eq-eqb, ne-eqb, not-true, not-false}
-use Rattle.wire_word.proofs.Below.{both-stop, both-go, every-shown, every-broken}
+use Rattle.lists.proofs.Below.{both-stop, both-go, every-shown, every-broken}
 use Rattle.table.specs.Layout.{seatSize, tableSize, blockOf}
 use Rattle.table.specs.Well.{seatWell, tableWell}
 use Rattle.table.proofs.Judging.{part-is}

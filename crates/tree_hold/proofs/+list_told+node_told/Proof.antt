@@ -22,10 +22,10 @@ use mathlib.Core.Path.{sym, _∙_}
 use native.Mathlib.Omega.{arith}
 use borrow.Author.Needs.{needs}
 use Rattle.catalogue.specs.Places.{rowOf}
-use Rattle.tree_node.specs.Reader.{readTree}
-use Rattle.tree_part.specs.Padding.{padding}
-use Rattle.tree_hold.specs.There.{Found}
-use Rattle.tree_hold.proofs.Nodes.{node-levels, as-branch, as-not, as-leaf, node-inside, not-child, not-told, leaf-found, leaf-answer, Lasts, left-first, branch-head, left-child, left-next, left-none}
+use Rattle.tree.specs.Reader.{readTree}
+use Rattle.wire.specs.Padding.{padding}
+use Rattle.tree.specs.There.{Found}
+use Rattle.tree.proofs.Nodes.{node-levels, as-branch, as-not, as-leaf, node-inside, not-child, not-told, leaf-found, leaf-answer, Lasts, left-first, branch-head, left-child, left-next, left-none}
 
 abbrev μ-list-told : Measures 2 list-told-kinds.ps ℕ
 μ-list-told κs a = a .1 .1 .1 .0 * 2 + 1

@@ -4,7 +4,7 @@ use Rattle.tree_hold.proofs.content_told.Statement.{statement}
 use Rattle.tree_hold.proofs.content_told.Tie as tie
 use mathlib.Core.Path.{_∙_}
 use native.Mathlib.Omega.{arith}
-use Rattle.tree_hold.proofs.Leaves.{text-inside, locale-counted, content-counted}
+use Rattle.tree.proofs.Leaves.{text-inside, locale-counted, content-counted}
 
 add-word : tie.Need-add-word
 add-word c = search needs

@@ -6,8 +6,8 @@ use mathlib.Core.Path.{sym, _∙_}
 use Prim.Native.Nat.{_-_}
 use native.Mathlib.Omega.{arith}
 use Rattle.catalogue.specs.Places.{rowOf}
-use Rattle.tree_node.specs.Limits.{levelsMost}
-use Rattle.tree_hold.proofs.Nodes.{node-inside, as-branch, root, root-answer}
+use Rattle.tree.specs.TreeLimits.{levelsMost}
+use Rattle.tree.proofs.Nodes.{node-inside, as-branch, root, root-answer}
 
 word-requires : tie.Need-word-requires
 word-requires c κs = let a = c .before .before .args in omega (arith, node-inside levelsMost (a .tree .now) 0 (root (a .tree .now) (c .before .before .pre .0) .found))

@@ -2,7 +2,7 @@
 use Rattle.tree_hold.proofs.leaf_told.Statement.{statement}
 use Rattle.tree_hold.proofs.leaf_told.Tie as tie
 use mathlib.Core.Path.{_∙_}
-use Rattle.tree_hold.proofs.Leaves.{relation-inside, relation-is, content-inside, content-is}
+use Rattle.tree.proofs.Leaves.{relation-inside, relation-is, content-inside, content-is}
 
 content-told-requires : tie.Need-content-told-requires
 content-told-requires c κs = let a = c .before .before .before .args in (content-inside (a .kind) (a .s .now) (a .at) (a .catalogue .now) (a .row) (c .before .before .before .pre .0) (c .if1 .taken), c .before .before .before .pre .1)

@@ -5,9 +5,9 @@ use Rattle.tree_leaf.proofs.read_content.Tie as tie
 use mathlib.Core.Path.{sym, ap₂, _∙_, refl}
 use mathlib.Core.Bool.{true, false}
 use native.Mathlib.Omega.{arith}
-use Rattle.wire_word.specs.Below.{both}
-use Rattle.tree_part.specs.Parts.{contentAt}
-use Rattle.tree_part.proofs.LeafLaws.{phrase-read, content-short, content-by}
+use Rattle.lists.specs.Below.{both}
+use Rattle.tree.specs.Parts.{contentAt}
+use Rattle.tree.proofs.LeafLaws.{phrase-read, content-short, content-by}
 
 read-phrase-requires : tie.Need-read-phrase-requires
 read-phrase-requires c κs = search needs

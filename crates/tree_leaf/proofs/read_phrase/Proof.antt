@@ -4,8 +4,8 @@ use Rattle.tree_leaf.proofs.read_phrase.Statement.{statement}
 use Rattle.tree_leaf.proofs.read_phrase.Tie as tie
 use mathlib.Core.Path.{sym, ap₂, _∙_}
 use mathlib.Core.Bool.{true, false}
-use Rattle.wire_word.specs.Below.{both}
-use Rattle.tree_part.proofs.LeafLaws.{phrase-short, phrase-cut, phrase-by}
+use Rattle.lists.specs.Below.{both}
+use Rattle.tree.proofs.LeafLaws.{phrase-short, phrase-cut, phrase-by}
 
 add-padding : tie.Need-add-padding
 add-padding c = search needs

@@ -6,8 +6,8 @@ use mathlib.Core.Path.{sym, ap, ap₂, _∙_}
 use mathlib.Core.Bool.{true, false}
 use Prim.Native.Nat.{ℕ}
 use lib.Dec.{eqb, leb}
-use Rattle.wire_word.specs.Below.{both}
-use Rattle.tree_part.proofs.LeafLaws.{relation-short, relation-by}
+use Rattle.lists.specs.Below.{both}
+use Rattle.tree.proofs.LeafLaws.{relation-short, relation-by}
 
 returns : tie.Need-returns
 returns c = relation-short (c .before .before .args .s .now) (c .if1 .taken)

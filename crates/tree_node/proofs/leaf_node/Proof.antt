@@ -3,7 +3,7 @@ use borrow.Author.Needs.{needs}
 use Rattle.tree_node.proofs.leaf_node.Statement.{statement}
 use Rattle.tree_node.proofs.leaf_node.Tie as tie
 use mathlib.Core.Path.{sym, _∙_}
-use Rattle.tree_part.proofs.LeafWords.{leaf-read}
+use Rattle.tree.proofs.LeafWords.{leaf-read}
 
 read-leaf-requires : tie.Need-read-leaf-requires
 read-leaf-requires c κs = search needs

@@ -10,8 +10,8 @@ use lib.Dec.{eqb}
 use lib.ListN.{getD}
 use borrow.Author.Count.{below-none, below-more}
 use borrow.Author.Tests.{eq-eqb, ne-eqb}
-use Rattle.wire_word.proofs.Below.{every-shown, every-broken}
-use Rattle.tree_part.specs.Property.{isSet}
+use Rattle.lists.proofs.Below.{every-shown, every-broken}
+use Rattle.wire.specs.PropertyAt.{isSet}
 
 abbrev Inv-loop : tie.InvT-loop
 Inv-loop s at i₀ i = (i ≤ 16) × ((k : ℕ) → k < i → eqb (getD s (at + k) 0) (0x10 + k) ≡ true)

@@ -5,8 +5,8 @@ use Rattle.tree_part.proofs.property.Tie as tie
 use mathlib.Core.Path.{sym, ap, ap₂, _∙_}
 use Prim.Native.Nat.{ℕ}
 use lib.Dec.{eqb}
-use Rattle.wire_word.specs.Below.{both}
-use Rattle.tree_part.specs.Property.{propertyAt}
+use Rattle.lists.specs.Below.{both}
+use Rattle.wire.specs.PropertyAt.{propertyAt}
 
 is-set-requires : tie.Need-is-set-requires
 is-set-requires c κs = search needs

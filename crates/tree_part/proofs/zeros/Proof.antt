@@ -9,8 +9,8 @@ use lib.Dec.{eqb}
 use lib.ListN.{getD}
 use borrow.Author.Count.{below-none, below-more}
 use borrow.Author.Tests.{eq-eqb, ne-eqb}
-use Rattle.wire_word.proofs.Below.{every-shown, every-broken}
-use Rattle.tree_part.specs.Padding.{zeros}
+use Rattle.lists.proofs.Below.{every-shown, every-broken}
+use Rattle.wire.specs.Padding.{zeros}
 
 abbrev Inv-loop : tie.InvT-loop
 Inv-loop s at n i₀ i = (i ≤ n) × ((k : ℕ) → k < i → eqb (getD s (at + k) 0) 0 ≡ true)

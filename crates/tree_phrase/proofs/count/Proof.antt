@@ -1,6 +1,6 @@
 -- Two bytes make a unit, so the units are half as many as the bytes (halves-length). Assumes nothing.
 use native.Mathlib.Omega.{arith}
-use Rattle.wire_word.proofs.Halves.{halves-length}
+use Rattle.wire.proofs.Halves.{halves-length}
 use Rattle.tree_phrase.proofs.count.Statement.{statement}
 use Rattle.tree_phrase.proofs.count.Tie as tie
 

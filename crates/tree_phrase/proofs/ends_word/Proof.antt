@@ -2,7 +2,7 @@
 use mathlib.Core.Path.{sym, _∙_}
 use borrow.Author.Needs.{needs}
 use borrow.Author.Tests.{eq-eqb, ne-eqb}
-use Rattle.tree_phrase.specs.Phrase.{endsWord}
+use Rattle.tree.specs.Phrase.{endsWord}
 use Rattle.tree_phrase.proofs.ends_word.Statement.{statement}
 use Rattle.tree_phrase.proofs.ends_word.Tie as tie
 

@@ -8,9 +8,9 @@ use lib.ListN.{getD}
 use borrow.Author.Needs.{needs}
 use borrow.Author.Count.{below-none, below-more}
 use borrow.Author.Tests.{not-true, not-false}
-use Rattle.wire_word.specs.Word.{halves}
-use Rattle.tree_phrase.specs.Phrase.{exact, OccursAt, endsWord, occurs}
-use Rattle.tree_phrase.proofs.Phrase.{no-left, no-row, no-right, found, nowhere}
+use Rattle.wire.specs.Word.{halves}
+use Rattle.tree.specs.Phrase.{exact, OccursAt, endsWord, occurs}
+use Rattle.tree.proofs.Phrase.{no-left, no-row, no-right, found, nowhere}
 use Rattle.tree_phrase.proofs.occurs.Statement.{statement}
 use Rattle.tree_phrase.proofs.occurs.Tie as tie
 

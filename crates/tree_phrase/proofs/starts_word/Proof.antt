@@ -1,7 +1,7 @@
 -- The code's two cases are the definition's: the text's start, else the unit before the place. Assumes nothing.
 use borrow.Author.Needs.{needs}
 use borrow.Author.Tests.{eq-eqb, ne-eqb}
-use Rattle.tree_phrase.specs.Phrase.{startsWord}
+use Rattle.tree.specs.Phrase.{startsWord}
 use Rattle.tree_phrase.proofs.starts_word.Statement.{statement}
 use Rattle.tree_phrase.proofs.starts_word.Tie as tie
 

@@ -1,7 +1,7 @@
 -- The unit at an index is the number that two bytes hold at twice the index (halves-at). Assumes nothing.
 use mathlib.Core.Path.{sym, _∙_}
 use native.Mathlib.Omega.{arith}
-use Rattle.wire_word.proofs.Halves.{halves-length, halves-at}
+use Rattle.wire.proofs.Halves.{halves-length, halves-at}
 use Rattle.tree_phrase.proofs.unit.Statement.{statement}
 use Rattle.tree_phrase.proofs.unit.Tie as tie
 

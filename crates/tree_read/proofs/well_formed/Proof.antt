@@ -3,7 +3,7 @@ use borrow.Author.Needs.{needs}
 use Rattle.tree_read.proofs.well_formed.Statement.{statement}
 use Rattle.tree_read.proofs.well_formed.Tie as tie
 use mathlib.Core.Path.{sym, _∙_}
-use Rattle.tree_read.proofs.WholeLaws.{whole-long, whole-none, whole-by}
+use Rattle.tree.proofs.WholeLaws.{whole-long, whole-none, whole-by}
 
 returns : tie.Need-returns
 returns c = whole-long (c .before .before .args .bytes .now) (c .if1 .taken)

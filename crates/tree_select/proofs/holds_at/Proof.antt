@@ -3,7 +3,7 @@ use borrow.Author.Needs.{needs}
 use Rattle.tree_select.proofs.holds_at.Statement.{statement}
 use Rattle.tree_select.proofs.holds_at.Tie as tie
 use mathlib.Core.Path.{sym, _∙_}
-use Rattle.tree_select.proofs.SelectLaws.{row-inside, no-row}
+use Rattle.tree.proofs.SelectLaws.{row-inside, no-row}
 
 row-again-requires : tie.Need-row-again-requires
 row-again-requires c κs = search needs

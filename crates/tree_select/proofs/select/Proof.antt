@@ -11,7 +11,7 @@ use native.Mathlib.Omega.{arith}
 use borrow.Author.Tests.{not-true, not-false}
 use lib.ListN.{length}
 use lib.Seq.{sets}
-use Rattle.tree_select.proofs.SelectLaws.{left, few, stands, left-more, all-selected}
+use Rattle.tree.proofs.SelectLaws.{left, few, stands, left-more, all-selected}
 
 abbrev Inv-loop : tie.InvT-loop
 Inv-loop tree catalogue rows places into₀ count₀ next₀ into count next =

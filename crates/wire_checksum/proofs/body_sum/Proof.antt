@@ -6,8 +6,8 @@ use mathlib.Core.Path.{_≡_}
 use Prim.Native.Nat.{_≤_, _*_, _-_, _/_}
 use native.Mathlib.Omega.{arith}
 use lib.ListN.{length}
-use Rattle.wire_checksum.specs.Checksum.{sumOfWords}
-use Rattle.wire_checksum.proofs.Sums.{sum-more, sum-whole, sum-short}
+use Rattle.wire.specs.Checksum.{sumOfWords}
+use Rattle.wire.proofs.Sums.{sum-more, sum-whole, sum-short}
 
 abbrev Inv-loop : tie.InvT-loop
 Inv-loop s whole sum₀ k₀ sum k = (k ≤ whole) × (whole ≡ length s / 4) × (sum ≤ k * 4294967295) × (sum ≡ sumOfWords k s)

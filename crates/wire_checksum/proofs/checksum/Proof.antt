@@ -3,7 +3,7 @@ use borrow.Author.Needs.{needs}
 use Rattle.wire_checksum.proofs.checksum.Statement.{statement}
 use Rattle.wire_checksum.proofs.checksum.Tie as tie
 use borrow.Author.Tests.{lt-leb, le-leb}
-use Rattle.wire_checksum.specs.Checksum.{checksumTold}
+use Rattle.wire.specs.Checksum.{checksumTold}
 
 returns : tie.Need-returns
 unfolding checksumTold

@@ -5,8 +5,8 @@ use Rattle.wire_checksum.proofs.checksum_of.Tie as tie
 use native.Mathlib.Omega.{arith}
 use lib.Bits.{xor-lt}
 use Prim.Native.Nat.{_%_}
-use Rattle.wire_word.proofs.Words.{rest}
-use Rattle.wire_checksum.specs.Checksum.{checksum}
+use Rattle.wire.proofs.Words.{rest}
+use Rattle.wire.specs.Checksum.{checksum}
 
 sub-body-sum : tie.Need-sub-body-sum
 sub-body-sum c = search needs

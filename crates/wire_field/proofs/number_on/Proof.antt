@@ -7,9 +7,9 @@ use Prim.Native.Nat.{ℕ, _+_}
 use mathlib.Core.Path.{_≡_, sym, ap, _∙_}
 use lib.ListN.{length}
 use borrow.Author.Tests.{not-true, not-false}
-use Rattle.wire_word.specs.Word.{numberAt}
-use Rattle.wire_field.proofs.Fields.{room-there, number-past, number-there}
-use Rattle.wire_field.specs.declared.NumberRead.{NumberRead}
+use Rattle.wire.specs.Word.{numberAt}
+use Rattle.wire.proofs.Fields.{room-there, number-past, number-there}
+use Rattle.wire.specs.declared.NumberRead.{NumberRead}
 
 room-requires : tie.Need-room-requires
 room-requires c κs = search needs

@@ -9,8 +9,8 @@ use mathlib.Core.Path.{_≡_, sym, _∙_}
 use lib.ListN.{length, getD}
 use borrow.Author.Tests.{not-true, not-false}
 use borrow.Author.Count.{below-more}
-use Rattle.wire_field.specs.Fields.{padCount}
-use Rattle.wire_field.proofs.Fields.{room-there, padded-past, padded-broken, padded-passed}
+use Rattle.wire.specs.Fields.{padCount}
+use Rattle.wire.proofs.Fields.{room-there, padded-past, padded-broken, padded-passed}
 
 abbrev Inv-loop : tie.InvT-loop
 Inv-loop m at unit over pad i₀ i = (i ≤ pad) × ((j : ℕ) → j < i → getD m (at + j) 0 ≡ 0)

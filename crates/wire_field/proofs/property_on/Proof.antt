@@ -6,8 +6,8 @@ use native.Mathlib.Omega.{arith}
 use mathlib.Core.Path.{sym, _∙_}
 use lib.ListN.{length}
 use borrow.Author.Tests.{not-true, not-false, eq-eqb, ne-eqb}
-use Rattle.wire_field.specs.Fields.{propertyOn}
-use Rattle.wire_field.proofs.Fields.{room-there}
+use Rattle.wire.specs.Fields.{propertyOn}
+use Rattle.wire.proofs.Fields.{room-there}
 
 room-requires : tie.Need-room-requires
 room-requires c κs = search needs

@@ -7,7 +7,7 @@ use Prim.Native.Nat.{ℕ, _+_, _-_, _≤_, _<_}
 use mathlib.Core.Path.{_≡_, sym}
 use lib.ListN.{getD}
 use borrow.Author.Count.{below-more}
-use Rattle.wire_field.proofs.Fields.{set-other, set-same}
+use Rattle.wire.proofs.Fields.{set-other, set-same}
 
 abbrev Inv-loop : tie.InvT-loop
 Inv-loop m at i₀ i = (i ≤ 16) × ((j : ℕ) → j < i → getD m (at + j) 0 ≡ 16 + j)

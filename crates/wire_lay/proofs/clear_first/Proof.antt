@@ -7,7 +7,7 @@ use Prim.Native.Nat.{_≤_, _-_}
 use native.Mathlib.Omega.{arith}
 use lib.ListN.{length, length-set}
 use borrow.Author.Fill.{fill-more}
-use Rattle.wire_lay.specs.Laid.{cleared}
+use Rattle.wire.specs.Laid.{cleared}
 
 abbrev Inv-loop : tie.InvT-loop
 Inv-loop reply₀ size i₀ reply i = (i ≤ size) × (length reply ≡ length reply₀) × (reply ≡ cleared i reply₀)

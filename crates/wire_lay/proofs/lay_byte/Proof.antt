@@ -2,7 +2,7 @@
 use borrow.Author.Needs.{needs}
 use Rattle.wire_lay.proofs.lay_byte.Statement.{statement}
 use Rattle.wire_lay.proofs.lay_byte.Tie as tie
-use Rattle.wire_lay.proofs.Lay.{stores}
+use Rattle.wire.proofs.Lay.{stores}
 use mathlib.Core.List.{_∷_, []}
 
 slice-write-reply : tie.Need-slice-write-reply

@@ -8,7 +8,7 @@ use native.Mathlib.Numerals.{add-one}
 use native.Mathlib.Omega.{arith}
 use lib.ListN.{length, length-set}
 use lib.Seq.{paste, paste-zero, paste-suc}
-use Rattle.wire_lay.proofs.Lay.{copied}
+use Rattle.wire.proofs.Lay.{copied}
 
 abbrev Inv-loop : tie.InvT-loop
 Inv-loop reply₀ at bytes i₀ reply i = (i ≤ length bytes) × (length reply ≡ length reply₀) × (reply ≡ paste reply₀ at bytes i)

@@ -3,7 +3,7 @@ use borrow.Author.Needs.{needs}
 use Rattle.wire_lay_header.proofs.lay_four.Statement.{statement}
 use Rattle.wire_lay_header.proofs.lay_four.Tie as tie
 use native.Mathlib.Omega.{arith}
-use Rattle.wire_lay.proofs.Little.{lay-fours}
+use Rattle.wire.proofs.Little.{lay-fours}
 
 lay-word-requires : tie.Need-lay-word-requires
 lay-word-requires c κs = search needs

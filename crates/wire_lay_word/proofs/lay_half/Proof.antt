@@ -5,8 +5,8 @@ use Rattle.wire_lay_word.proofs.lay_half.Tie as tie
 use native.Mathlib.Omega.{arith}
 use native.Mathlib.Numerals.{add-one}
 use lib.ListN.{length-set}
-use Rattle.wire_word.specs.Word.{le}
-use Rattle.wire_lay.proofs.Lay.{stores}
+use Rattle.wire.specs.Word.{le}
+use Rattle.wire.proofs.Lay.{stores}
 
 cast-reply : tie.Need-cast-reply
 cast-reply c = search needs

@@ -3,7 +3,7 @@ use borrow.Author.Needs.{needs}
 use Rattle.wire_lay_word.proofs.lay_long.Statement.{statement}
 use Rattle.wire_lay_word.proofs.lay_long.Tie as tie
 use native.Mathlib.Omega.{arith}
-use Rattle.wire_lay.proofs.Little.{lay-words}
+use Rattle.wire.proofs.Little.{lay-words}
 
 lay-word-requires : tie.Need-lay-word-requires
 lay-word-requires c κs = search needs

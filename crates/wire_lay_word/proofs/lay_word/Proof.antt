@@ -3,7 +3,7 @@ use borrow.Author.Needs.{needs}
 use Rattle.wire_lay_word.proofs.lay_word.Statement.{statement}
 use Rattle.wire_lay_word.proofs.lay_word.Tie as tie
 use native.Mathlib.Omega.{arith}
-use Rattle.wire_lay.proofs.Little.{lay-halves}
+use Rattle.wire.proofs.Little.{lay-halves}
 
 lay-half-requires : tie.Need-lay-half-requires
 lay-half-requires c κs = search needs

@@ -3,7 +3,7 @@ use borrow.Author.Needs.{needs}
 use Rattle.wire_word.proofs.half.Statement.{statement}
 use Rattle.wire_word.proofs.half.Tie as tie
 use native.Mathlib.Omega.{arith}
-use Rattle.wire_word.proofs.Words.{half-at}
+use Rattle.wire.proofs.Words.{half-at}
 
 byte-requires : tie.Need-byte-requires
 byte-requires c κs = search needs

@@ -3,7 +3,7 @@ use borrow.Author.Needs.{needs}
 use Rattle.wire_word.proofs.last_word.Statement.{statement}
 use Rattle.wire_word.proofs.last_word.Tie as tie
 use native.Mathlib.Omega.{arith}
-use Rattle.wire_word.proofs.Words.{word-at}
+use Rattle.wire.proofs.Words.{word-at}
 
 byte-or-zero-requires : tie.Need-byte-or-zero-requires
 byte-or-zero-requires c κs = search needs

@@ -3,7 +3,7 @@ use borrow.Author.Needs.{needs}
 use Rattle.wire_word.proofs.word.Statement.{statement}
 use Rattle.wire_word.proofs.word.Tie as tie
 use native.Mathlib.Omega.{arith}
-use Rattle.wire_word.proofs.Words.{word-at}
+use Rattle.wire.proofs.Words.{word-at}
 
 byte-requires : tie.Need-byte-requires
 byte-requires c κs = search needs

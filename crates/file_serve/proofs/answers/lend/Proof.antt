@@ -3,7 +3,7 @@ use mathlib.Core.Path.{refl}
 use Prim.Native.Nat.{_-_}
 use native.Mathlib.Omega.{arith}
 use lib.ListN.{drop}
-use Rattle.file_serve.proofs.Short.{part-short}
+use Rattle.file.proofs.Short.{part-short}
 use borrow.Author.Needs.{needs}
 use Rattle.file_serve.proofs.answers.lend.Statement.{statement}
 use Rattle.file_serve.proofs.answers.lend.Tie as tie

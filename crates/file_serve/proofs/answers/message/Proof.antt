@@ -2,7 +2,7 @@
 use Prim.Native.Nat.{ℕ, _-_}
 use native.Mathlib.Omega.{arith}
 use lib.ListN.{replicate, length-replicate}
-use Rattle.file_serve.proofs.Serving.{loaded, part-size}
+use Rattle.file.proofs.Serving.{loaded, part-size}
 use borrow.Author.Needs.{needs}
 use Rattle.file_serve.proofs.answers.message.Statement.{statement}
 use Rattle.file_serve.proofs.answers.message.Tie as tie

@@ -1,7 +1,7 @@
 -- The tree is the bytes that the digits spell. Assumes nothing.
 use Prim.Native.Nat.{_-_}
 use native.Mathlib.Omega.{arith}
-use Rattle.file_serve.proofs.Serving.{loaded, served-open}
+use Rattle.file.proofs.Serving.{loaded, served-open}
 use borrow.Author.Needs.{needs}
 use Rattle.file_serve.proofs.answers.open.Statement.{statement}
 use Rattle.file_serve.proofs.answers.open.Tie as tie

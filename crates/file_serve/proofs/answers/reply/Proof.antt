@@ -1,7 +1,7 @@
 -- The answer tells the reply alone. Assumes nothing.
 use native.Mathlib.Omega.{arith}
 use lib.ListN.{length}
-use Rattle.file_serve.proofs.Serving.{kept-count, served-message}
+use Rattle.file.proofs.Serving.{kept-count, served-message}
 use borrow.Author.Needs.{needs}
 use Rattle.file_serve.proofs.answers.reply.Statement.{statement}
 use Rattle.file_serve.proofs.answers.reply.Tie as tie

@@ -2,8 +2,8 @@
 use Prim.Native.Nat.{_-_}
 use native.Mathlib.Omega.{arith}
 use lib.ListN.{drop}
-use Rattle.file_serve.proofs.Short.{part-short}
-use Rattle.file_serve.proofs.Serving.{served-none, served-error, served-connect}
+use Rattle.file.proofs.Short.{part-short}
+use Rattle.file.proofs.Serving.{served-none, served-error, served-connect}
 use borrow.Author.Needs.{needs}
 use Rattle.file_serve.proofs.answers.serve.Statement.{statement}
 use Rattle.file_serve.proofs.answers.serve.Tie as tie

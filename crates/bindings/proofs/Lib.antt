@@ -1,0 +1,12 @@
+pub mod Columns
+pub mod Spans
+pub mod FitJudged
+pub mod Parts
+pub mod Sound
+pub mod Exact
+pub mod Records
+pub mod Bindings
+pub mod Told
+pub mod Agree
+pub mod ReadJudged
+pub mod Vectors

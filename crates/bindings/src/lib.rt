@@ -1,0 +1,58 @@
+// The columns of bindings, when they are fit, and how a message has them. Definitions and laws, no code.
+
+// Where a column's value stands in a row: whether it is used, its place and its size.
+pub struct Value {
+    pub used: u32,
+    pub offset: u32,
+    pub size: u32,
+}
+
+// The same of a column's status or length, which have one size.
+pub struct Spot {
+    pub used: u32,
+    pub offset: u32,
+}
+
+// A column, in the order of its nine words in the session table.
+pub struct Column {
+    pub property: u32,
+    pub vtype: u32,
+    pub value: Value,
+    pub status: Spot,
+    pub length: Spot,
+}
+
+// A used part of a row.
+pub struct Span {
+    pub place: u32,
+    pub size: u32,
+}
+
+pub const COLUMN_WORDS: usize = 9;
+
+pub const COLUMNS_MOST: u32 = 5;
+
+pub const ROW_MOST: u32 = 4096;
+
+pub enum SpotRead {
+    At(Spot, usize),
+    Malformed,
+}
+
+pub enum ValueRead {
+    At(Value, usize),
+    Malformed,
+}
+
+pub enum ColumnRead {
+    At(Column, usize),
+    Malformed,
+}
+
+// What a message holds, but for its columns.
+pub struct BindingsRead {
+    pub malformed: bool,
+    pub handle: u32,
+    pub width: u32,
+    pub count: u32,
+}

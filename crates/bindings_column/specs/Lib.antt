@@ -1,6 +1,0 @@
-pub mod Each
-pub mod Column
-pub mod Property
-pub mod Fit
-pub mod Spans
-pub mod Sound

@@ -1,2 +1,0 @@
-mod RowsLaws
-mod CheckLaws

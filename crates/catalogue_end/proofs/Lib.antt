@@ -1,2 +1,0 @@
-mod TextLaws
-mod EndLaws

@@ -1,4 +1,0 @@
-pub mod Carry
-pub mod Inside
-pub mod RoundTrip
-pub mod Vectors

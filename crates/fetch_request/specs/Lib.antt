@@ -1,2 +1,0 @@
-pub mod Request
-pub mod Asking

@@ -1,0 +1,1 @@
+// A file of recorded calls, served. Definitions and laws, no code.

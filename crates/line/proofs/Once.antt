@@ -1,0 +1,24 @@
+-- What is kept of a part of a line is one outcome: the contract allows no two. Assumes nothing.
+use mathlib.Core.Path.{_≡_, sym, _∙_}
+use mathlib.Core.List.{List}
+use Prim.Native.Nat.{ℕ}
+use Rattle.line.specs.declared.Place.{Place}
+use Rattle.line.specs.Kept.{Kept}
+
+pub record Same (r r′ : Place) (exit exit′ : List ℕ) : Type 0 where
+  pub bytes : exit ≡ exit′
+  pub kept : r .kept ≡ r′ .kept
+  pub cut : r .cut ≡ r′ .cut
+  pub number : r .number ≡ r′ .number
+  pub catalogue : r .catalogue ≡ r′ .catalogue
+  pub used : r .used ≡ r′ .used
+
+pub kept-once : (line : List ℕ) (p : Place) (part : List ℕ) (r r′ : Place) (exit exit′ : List ℕ) → Kept line p part r exit → Kept line p part r′ exit′ → Same r r′ exit exit′
+kept-once line p part r r′ exit exit′ a b = record {
+  bytes = a .bytes ∙ sym (b .bytes);
+  kept = a .kept ∙ sym (b .kept);
+  cut = a .cut ∙ sym (b .cut);
+  number = a .number ∙ sym (b .number);
+  catalogue = a .catalogue ∙ sym (b .catalogue);
+  used = a .used ∙ sym (b .used);
+}

@@ -1,0 +1,5 @@
+pub mod Below
+pub mod Options
+pub mod Says
+pub mod Every
+pub mod Rising

@@ -1,0 +1,4 @@
+pub mod Below
+pub mod Each
+pub mod Every
+pub mod Rising

@@ -1,2 +1,0 @@
-pub mod Tidy
-pub mod Keeping

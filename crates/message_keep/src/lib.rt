@@ -1,1 +1,0 @@
-// Whatever a message does, it leaves its seat fit: theorems alone, no code.

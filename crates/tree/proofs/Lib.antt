@@ -1,0 +1,14 @@
+pub mod Phrase
+pub mod PhraseVectors
+pub mod LeafLaws
+pub mod LeafWords
+pub mod TreeLaws
+pub mod Induction
+pub mod TreeFacts
+pub mod TreeVectors
+pub mod Leaves
+pub mod Nodes
+pub mod WholeLaws
+pub mod Selection
+pub mod SelectLaws
+pub mod SelectVectors

@@ -1,0 +1,16 @@
+pub mod Phrase
+pub mod LeafLimits
+pub mod Leaf
+pub mod LeafHolds
+pub mod Parts
+pub mod Inside
+pub mod VerdictTold
+pub mod TreeLimits
+pub mod Tree
+pub mod TreeHolds
+pub mod Reader
+pub mod Answer
+pub mod HoldTold
+pub mod There
+pub mod Select
+pub mod Noted

@@ -1,0 +1,17 @@
+-- What the code says of a node: one number for the place after it and whether it holds.
+use mathlib.Core.Bool.{Bool}
+use Prim.Native.Nat.{ℕ, _+_, _-_, _*_, _%_}
+use lib.Dec.{eqb}
+use Rattle.lists.specs.Below.{pick, both, either}
+
+-- twice the place after a node, and one more where it holds
+abbrev pub told : Bool → ℕ → ℕ
+told holds end = 2 * end + pick holds 1 0
+
+-- the same place with the other answer
+abbrev pub turned : ℕ → ℕ
+turned answer = pick (eqb (answer % 2) 1) (answer - 1) (answer + 1)
+
+-- an and holds where it held so far and one child more does, an or where one of the two does
+abbrev pub withChild : ℕ → Bool → Bool → Bool
+withChild kind before child = pick (eqb kind 1) (both before child) (either before child)

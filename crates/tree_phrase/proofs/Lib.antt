@@ -1,2 +1,0 @@
-pub mod Phrase
-pub mod Vectors

@@ -1,3 +1,0 @@
-pub mod Selection
-pub mod SelectLaws
-pub mod Vectors

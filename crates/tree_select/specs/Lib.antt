@@ -1,2 +1,0 @@
-pub mod Select
-pub mod Noted

@@ -1,0 +1,65 @@
+-- Laws of the little-endian bytes of a number: how many there are, how they part, and that the number is read back.
+-- Assumes nothing.
+use mathlib.Core.Path.{_≡_, refl, ap, _∙_}
+use mathlib.Core.List.{List, _++_, append-assoc}
+use Prim.Native.Nat.{ℕ, zero, suc, _+_, _/_, _^_, _≤_, _<_}
+use native.Mathlib.Nat.{pow-suc, div-lt-iff-lt-mul}
+use native.Mathlib.Omega.{arith}
+use lib.ListN.{length, length-append}
+use Rattle.wire.specs.Word.{number, numberAt, le}
+use Rattle.wire.specs.Laid.{lay, part, fourWords}
+use Rattle.wire.proofs.Lay.{lay-next}
+
+pub le-length : (n v : ℕ) → length (le n v) ≡ n
+unfolding le
+le-length zero v = refl
+le-length (suc n) v = ap suc (le-length n (v / 256))
+
+-- the low half and the high half
+pub two-halves : (v : ℕ) → le 2 v ++ le 2 (v / 0x1_0000) ≡ le 4 v
+unfolding le
+two-halves v = rw (parts)
+  where
+    parts : v / 0x1_0000 ≡ v / 256 / 256
+    parts = omega arith
+
+pub two-words : (v : ℕ) → le 4 v ++ le 4 (v / 0x1_0000_0000) ≡ le 8 v
+unfolding le
+two-words v = rw (parts)
+  where
+    parts : v / 0x1_0000_0000 ≡ v / 256 / 256 / 256 / 256
+    parts = omega arith
+
+-- a number that n bytes hold is what they hold
+pub number-le : (n v : ℕ) → v < 256 ^ n → number (le n v) ≡ v
+unfolding number le
+number-le zero v h = omega arith
+number-le (suc n) v h = omega (arith, number-le n (v / 256) (div-lt-iff-lt-mul {k = 256} {x = v} {y = 256 ^ n} (omega arith) .1 (rw pow-suc at h)))
+
+-- so it is read back where they stand
+pub read-number : (t : List ℕ) (n at v : ℕ) → v < 256 ^ n → part n at t ≡ le n v → numberAt n t at ≡ v
+unfolding numberAt
+read-number t n at v h e = ap number e ∙ number-le n v h
+
+-- numbers laid one after the other
+pub lay-halves : (t : List ℕ) (at v : ℕ) → at + 2 ≤ length t → lay (lay t at (le 2 v)) (at + 2) (le 2 (v / 0x1_0000)) ≡ lay t at (le 4 v)
+lay-halves t at v h = lay-next t at 2 (le 2 v) (le 2 (v / 0x1_0000)) (le-length 2 v) h ∙ ap (lay t at) (two-halves v)
+
+pub lay-words : (t : List ℕ) (at v : ℕ) → at + 4 ≤ length t → lay (lay t at (le 4 v)) (at + 4) (le 4 (v / 0x1_0000_0000)) ≡ lay t at (le 8 v)
+lay-words t at v h = lay-next t at 4 (le 4 v) (le 4 (v / 0x1_0000_0000)) (le-length 4 v) h ∙ ap (lay t at) (two-words v)
+
+pub lay-fours : (t : List ℕ) (at a b c d : ℕ) → at + 12 ≤ length t
+    → lay (lay (lay (lay t at (le 4 a)) (at + 4) (le 4 b)) (at + 8) (le 4 c)) (at + 12) (le 4 d) ≡ lay t at (fourWords a b c d)
+lay-fours t at a b c d h =
+    rw (
+      lay-next t at 4 (le 4 a) (le 4 b) (le-length 4 a) (omega arith),
+      lay-next t at 8 (le 4 a ++ le 4 b) (le 4 c) two (omega arith),
+      lay-next t at 12 (le 4 a ++ le 4 b ++ le 4 c) (le 4 d) three h,
+    )
+    (ap (lay t at) (append-assoc (le 4 a ++ le 4 b) (le 4 c) (le 4 d) ∙ append-assoc (le 4 a) (le 4 b) (le 4 c ++ le 4 d)))
+  where
+    two : length (le 4 a ++ le 4 b) ≡ 8
+    two = omega (arith, length-append (le 4 a) (le 4 b), le-length 4 a, le-length 4 b)
+
+    three : length (le 4 a ++ le 4 b ++ le 4 c) ≡ 12
+    three = omega (arith, length-append (le 4 a ++ le 4 b) (le 4 c), two, le-length 4 c)

@@ -1,3 +1,0 @@
-pub mod Lay
-pub mod Lays
-pub mod Little
