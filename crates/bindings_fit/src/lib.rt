@@ -17,10 +17,10 @@ fn columns_for(words: &[u32], count: usize, width: u32) -> bool
         return false;
     }
     let total = 3 * count;
-    if !bindings_layout::all_inside(words, total, width) {
+    if !bindings_span::all_inside(words, total, width) {
         return false;
     }
-    bindings_layout::none_meet(words, total)
+    bindings_span::none_meet(words, total)
 }
 
 // Whether bindings are fit: `count` columns, in the nine words of each, for rows of `width` bytes.
@@ -28,10 +28,10 @@ pub fn fit(words: &[u32], count: u32, width: u32) -> bool
     requires { ⌜ length (now words) ≡ roomWords ⌝ }
     ensures { λ r. ⌜ r ≡ fit width (columnsOf count (now (words .entry))) ⌝ }
 {
-    if !bindings_column::within(1, bindings::COLUMNS_MOST, count) {
+    if !bindings_property::within(1, bindings::COLUMNS_MOST, count) {
         return false;
     }
-    if !bindings_column::within(1, bindings::ROW_MOST, width) {
+    if !bindings_property::within(1, bindings::ROW_MOST, width) {
         return false;
     }
     columns_for(words, count as usize, width)

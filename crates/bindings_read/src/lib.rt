@@ -1,12 +1,97 @@
-// The message that sets a cursor's bindings, read to values.
+// Bindings in a message: a column, and the whole.
 ghost use mathlib.Core.Path.{_≡_};
 ghost use lib.ListN.{length};
+ghost use Rattle.bindings.specs.Wire.{spotOn, valueOn, columnOn};
 ghost use Rattle.bindings.specs.Column.{roomWords};
 ghost use Rattle.bindings.specs.Bindings.{columnsAt, columnsOn, keeping, keptOr};
 ghost use Rattle.bindings.specs.Told.{malformed, Told};
 use bindings::BindingsRead;
+use bindings::Column;
 use bindings::ColumnRead;
+use bindings::Spot;
+use bindings::SpotRead;
+use bindings::Value;
+use bindings::ValueRead;
+use wire::NumberRead;
 use wire::PlaceRead;
+
+// The bytes of a column's type.
+const TYPE_WIDTH: usize = 4;
+
+// A flag, and the offset that follows it where it is set.
+fn spot_on(m: &[u8], at: usize) -> SpotRead
+    ensures { λ r. ⌜ r ≡ spotOn (now (m .entry)) at ⌝ }
+{
+    let NumberRead::Number(used, next) = wire_field::flag_on(m, at) else {
+        return SpotRead::Malformed;
+    };
+    if used == 0 {
+        return SpotRead::At(Spot { used: 0, offset: 0 }, next);
+    }
+    let PlaceRead::Place(place) = wire_field::padded_on(m, next, 2) else {
+        return SpotRead::Malformed;
+    };
+    let NumberRead::Number(offset, after) = wire_field::number_on(m, place, 2) else {
+        return SpotRead::Malformed;
+    };
+    SpotRead::At(Spot { used, offset }, after)
+}
+
+// The same with the size that follows the offset.
+fn value_on(m: &[u8], at: usize) -> ValueRead
+    ensures { λ r. ⌜ r ≡ valueOn (now (m .entry)) at ⌝ }
+{
+    let SpotRead::At(spot, next) = spot_on(m, at) else {
+        return ValueRead::Malformed;
+    };
+    let used = spot.used;
+    let offset = spot.offset;
+    if used == 0 {
+        return ValueRead::At(
+            Value {
+                used: 0,
+                offset: 0,
+                size: 0,
+            },
+            next,
+        );
+    }
+    let NumberRead::Number(size, after) = wire_field::number_on(m, next, 2) else {
+        return ValueRead::Malformed;
+    };
+    ValueRead::At(Value { used, offset, size }, after)
+}
+
+// A column.
+pub fn column_on(m: &[u8], at: usize) -> ColumnRead
+    ensures { λ r. ⌜ r ≡ columnOn (now (m .entry)) at ⌝ }
+{
+    let NumberRead::Number(property, a) = wire_field::property_on(m, at) else {
+        return ColumnRead::Malformed;
+    };
+    let NumberRead::Number(vtype, b) = wire_field::number_on(m, a, TYPE_WIDTH) else {
+        return ColumnRead::Malformed;
+    };
+    let ValueRead::At(value, c) = value_on(m, b) else {
+        return ColumnRead::Malformed;
+    };
+    let SpotRead::At(status, d) = spot_on(m, c) else {
+        return ColumnRead::Malformed;
+    };
+    let SpotRead::At(length, e) = spot_on(m, d) else {
+        return ColumnRead::Malformed;
+    };
+    ColumnRead::At(
+        Column {
+            property,
+            vtype,
+            value,
+            status,
+            length,
+        },
+        e,
+    )
+}
 
 // The places of the body's fields.
 const HANDLE_AT: usize = 16;
@@ -31,7 +116,7 @@ fn read_columns(m: &[u8], count: u32, words: &mut [u32]) -> bool
         let PlaceRead::Place(place) = wire_field::padded_on(m, at, 4) else {
             return false;
         };
-        let ColumnRead::At(column, next) = bindings_wire::column_on(m, place) else {
+        let ColumnRead::At(column, next) = column_on(m, place) else {
             return false;
         };
         bindings_record::keep(words, k, column);

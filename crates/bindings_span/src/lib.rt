@@ -1,11 +1,12 @@
-// The spans of a row by index, three to a column: its value, its status, its length; and whether two of them meet.
-use bindings::Span;
+// The spans that columns use in a row: where they lie, that they lie inside, and that none meets another.
 ghost use mathlib.Core.Path.{_≡_};
-ghost use Prim.Native.Nat.{_+_, _<_};
+ghost use Prim.Native.Nat.{_+_, _<_, _≤_};
 ghost use lib.ListN.{length};
 ghost use Rattle.bindings.specs.Column.{roomWords};
-ghost use Rattle.bindings.specs.Fit.{apart};
-ghost use Rattle.bindings.specs.Spans.{spanOr, spanAt, spansMost};
+ghost use Rattle.bindings.specs.Fit.{apart, inside};
+ghost use Rattle.bindings.specs.Spans.{spanOr, spanAt, spansMost, spansFrom};
+ghost use Rattle.lists.specs.Every.{every, pairwise};
+use bindings::Span;
 
 // A span, or an empty one where it is not used.
 fn span_or(used: u32, place: u32, size: u32) -> Span
@@ -48,4 +49,57 @@ pub fn apart(a: Span, b: Span) -> bool
         return true;
     }
     end(b) <= (a.place as u64)
+}
+
+// Whether each span lies in the row.
+pub fn all_inside(words: &[u32], total: usize, width: u32) -> bool
+    requires { ⌜ (length (now words) ≡ roomWords) × (total ≤ spansMost) ⌝ }
+    ensures { λ r. ⌜ r ≡ every (inside width) (spansFrom total 0 (now (words .entry))) ⌝ }
+{
+    let mut i = 0;
+    let mut left = total;
+    while 0 < left {
+        let a = span_at(words, i);
+        if (width as u64) < end(a) {
+            return false;
+        }
+        i += 1;
+        left -= 1;
+    }
+    true
+}
+
+// Whether a span meets none of those from an index on.
+fn clear_of(words: &[u32], from: usize, total: usize, a: Span) -> bool
+    requires { ⌜ (length (now words) ≡ roomWords) × (from + total ≤ spansMost) ⌝ }
+    ensures { λ r. ⌜ r ≡ every (apart a) (spansFrom total from (now (words .entry))) ⌝ }
+{
+    let mut i = from;
+    let mut left = total;
+    while 0 < left {
+        if !apart(a, span_at(words, i)) {
+            return false;
+        }
+        i += 1;
+        left -= 1;
+    }
+    true
+}
+
+// Whether no two spans meet.
+pub fn none_meet(words: &[u32], total: usize) -> bool
+    requires { ⌜ (length (now words) ≡ roomWords) × (total ≤ spansMost) ⌝ }
+    ensures { λ r. ⌜ r ≡ pairwise apart (spansFrom total 0 (now (words .entry))) ⌝ }
+{
+    let mut i = 0;
+    let mut left = total;
+    while 0 < left {
+        let a = span_at(words, i);
+        i += 1;
+        left -= 1;
+        if !clear_of(words, i, left, a) {
+            return false;
+        }
+    }
+    true
 }

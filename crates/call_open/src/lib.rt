@@ -22,7 +22,7 @@ pub fn open(table: &mut [u32], catalogue: &[u8], seat: Seat, tree: &[u8]) -> Ope
     }
     let at = table::SEAT_SIZE * (k as usize);
     let end = at + table::SEAT_SIZE;
-    let opened = query_admit::judge(&table[at..end], tree);
+    let opened = query_open::judge(&table[at..end], tree);
     let refused = opened.refusal;
     let handle = opened.handle;
     if refused != 0 {

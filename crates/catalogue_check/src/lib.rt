@@ -45,7 +45,7 @@ pub fn check(s: &[u8], places: &mut [u32; 1024]) -> Checked
             rows: 0,
         };
     }
-    let Reading::Number(count, first) = catalogue_read::read(s, 0, ROWS_MOST) else {
+    let Reading::Number(count, first) = catalogue_number::read(s, 0, ROWS_MOST) else {
         return Checked {
             refusal: 3,
             rows: 0,

@@ -25,10 +25,10 @@ fn none_zero(units: &[u8]) -> bool
 fn text_end(s: &[u8], at: usize) -> usize
     ensures { λ r. ⌜ r ≡ textEnd (textAt (now (s .entry)) at) ⌝ }
 {
-    let Reading::Number(size, start) = catalogue_read::read(s, at, catalogue::SIZE_MOST) else {
+    let Reading::Number(size, start) = catalogue_number::read(s, at, catalogue::SIZE_MOST) else {
         return 0;
     };
-    let end = catalogue_text::units_end(size as usize, start);
+    let end = catalogue_row::units_end(size as usize, start);
     if s.len() < end {
         return 0;
     }
@@ -42,13 +42,13 @@ fn text_end(s: &[u8], at: usize) -> usize
 pub fn row_end(s: &[u8], at: usize) -> usize
     ensures { λ r. ⌜ r ≡ rowEnd (rowAt (now (s .entry)) at) ⌝ }
 {
-    let Reading::Number(_, at1) = catalogue_read::read(s, at, catalogue::KEY_MOST) else {
+    let Reading::Number(_, at1) = catalogue_number::read(s, at, catalogue::KEY_MOST) else {
         return 0;
     };
-    let Reading::Number(_, at2) = catalogue_read::read(s, at1, catalogue::NUMBER_MOST) else {
+    let Reading::Number(_, at2) = catalogue_number::read(s, at1, catalogue::NUMBER_MOST) else {
         return 0;
     };
-    let Reading::Number(_, at3) = catalogue_read::read(s, at2, catalogue::NUMBER_MOST) else {
+    let Reading::Number(_, at3) = catalogue_number::read(s, at2, catalogue::NUMBER_MOST) else {
         return 0;
     };
     let at4 = text_end(s, at3);

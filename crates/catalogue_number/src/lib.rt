@@ -1,9 +1,9 @@
-// Numbers in groups of seven bits, least first, in their shortest form.
+// Numbers in groups of seven bits, least first, in their shortest form: the first group, and those after it.
 ghost use mathlib.Core.Path.{_≡_};
 ghost use Prim.Native.Nat.{_+_, _<_};
 ghost use lib.ListN.{length, drop};
 ghost use Rattle.catalogue.specs.Groups.{groups, further, within};
-ghost use Rattle.catalogue.specs.Reading.{placed};
+ghost use Rattle.catalogue.specs.Reading.{placed, readingAt};
 use catalogue::Reading;
 
 // The number that begins at a place, if it is well formed and at most the limit, where the group there has its top bit set
@@ -48,4 +48,21 @@ pub fn read_further(s: &[u8], at: usize, low: u64, limit: u64) -> Reading
         i += 1;
     }
     Reading::Malformed
+}
+
+// The number that begins at a place, if it is well formed and at most the limit.
+pub fn read(s: &[u8], at: usize, limit: u64) -> Reading
+    ensures { λ r. ⌜ r ≡ readingAt limit (now (s .entry)) at ⌝ }
+{
+    if s.len() <= at {
+        return Reading::Malformed;
+    }
+    let first = s[at] as u64;
+    if first < 128 {
+        if limit < first {
+            return Reading::Malformed;
+        }
+        return Reading::Number(first, at + 1);
+    }
+    read_further(s, at, first - 128, limit)
 }

@@ -1,22 +1,48 @@
-// A row of the option catalogue that is known to stand at a place, as one that the check noted.
+// A text's units, and the row, or its fields, that are known to stand at a place.
 ghost use mathlib.Core.Path.{_≡_};
-ghost use Rattle.catalogue.specs.Places.{textAt, rowAt, TextThere, RowThere};
+ghost use Prim.Native.Nat.{_+_, _^_, _≤_, _<_};
+ghost use lib.ListN.{length};
+ghost use Rattle.catalogue.specs.Limits.{sizeMost};
+ghost use Rattle.catalogue.specs.Places.{unitBytesOf, unitsPart, textAt, rowAt, TextThere, RowThere};
+ghost use Rattle.catalogue.specs.Seen.{fieldsSeen};
 use catalogue::Fields;
 use catalogue::Reading;
 use catalogue::RowAt;
 use catalogue::Text;
 use catalogue::TextAt;
 
+// The place after a text's units.
+pub fn units_end(size: usize, start: usize) -> usize
+    requires { ⌜ (start < 2 ^ 63) × (size ≤ 2049) ⌝ }
+    ensures { λ r. ⌜ r ≡ start + unitBytesOf size ⌝ }
+{
+    if size == 0 {
+        return start;
+    }
+    start + 2 * (size - 1)
+}
+
+// The bytes of a text's units, as a part of the caller's own.
+pub fn units(s: &[u8], text: Text) -> &[u8]
+    requires { ⌜ (text .size ≤ sizeMost) × (text .start + unitBytesOf (text .size) ≤ length (now s)) ⌝ }
+    ensures { λ r. ⌜ now r ≡ unitsPart (now (s .entry)) text ⌝ }
+{
+    let start = text.start;
+    let size = text.size;
+    let end = units_end(size, start);
+    &s[start..end]
+}
+
 // The text that is known to stand at a place: its units are not looked at again.
 fn text_again(s: &[u8], at: usize) -> TextAt
     requires { ⌜ TextThere (now s) at ⌝ }
     ensures { λ r. ⌜ r ≡ textAt (now (s .entry)) at ⌝ }
 {
-    let Reading::Number(told, start) = catalogue_read::read(s, at, catalogue::SIZE_MOST) else {
+    let Reading::Number(told, start) = catalogue_number::read(s, at, catalogue::SIZE_MOST) else {
         return TextAt::NoText;
     };
     let size = told as usize;
-    let end = catalogue_text::units_end(size, start);
+    let end = units_end(size, start);
     TextAt::TextTo(Text { size, start }, end)
 }
 
@@ -25,13 +51,15 @@ pub fn row_again(s: &[u8], at: usize) -> RowAt
     requires { ⌜ RowThere (now s) at ⌝ }
     ensures { λ r. ⌜ r ≡ rowAt (now (s .entry)) at ⌝ }
 {
-    let Reading::Number(key, at1) = catalogue_read::read(s, at, catalogue::KEY_MOST) else {
+    let Reading::Number(key, at1) = catalogue_number::read(s, at, catalogue::KEY_MOST) else {
         return RowAt::NoRow;
     };
-    let Reading::Number(language, at2) = catalogue_read::read(s, at1, catalogue::NUMBER_MOST) else {
+    let Reading::Number(language, at2) = catalogue_number::read(s, at1, catalogue::NUMBER_MOST)
+    else {
         return RowAt::NoRow;
     };
-    let Reading::Number(default, at3) = catalogue_read::read(s, at2, catalogue::NUMBER_MOST) else {
+    let Reading::Number(default, at3) = catalogue_number::read(s, at2, catalogue::NUMBER_MOST)
+    else {
         return RowAt::NoRow;
     };
     let TextAt::TextTo(label, at4) = text_again(s, at3) else {
@@ -50,4 +78,21 @@ pub fn row_again(s: &[u8], at: usize) -> RowAt
         },
         at5,
     )
+}
+
+// The fields of the row at a place that the check noted.
+pub fn fields_at(s: &[u8], at: usize) -> Fields
+    requires { ⌜ RowThere (now s) at ⌝ }
+    ensures { λ r. ⌜ r ≡ fieldsSeen (now (s .entry)) at ⌝ }
+{
+    let RowAt::RowTo(fields, _) = row_again(s, at) else {
+        return Fields {
+            key: 0,
+            language: 0,
+            default: 0,
+            label: Text { size: 0, start: 0 },
+            note: Text { size: 0, start: 0 },
+        };
+    };
+    fields
 }

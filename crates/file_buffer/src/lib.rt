@@ -40,7 +40,7 @@ pub fn keep(line: &mut [u8], place: Place, part: &[u8]) -> Place
 pub fn call_of(line: &[u8], cut: bool) -> Call
     ensures { λ r. ⌜ (r ≡ keptCall (now (line .entry)) cut) × Fits (length (now (line .entry))) r ⌝ }
 {
-    let end = line_run::before_comment(line);
+    let end = line_word::before_comment(line);
     if end < line.len() {
         return line_call::read(&line[0..end]);
     }

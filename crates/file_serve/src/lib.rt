@@ -59,7 +59,7 @@ fn serve_chunk(
     let mut here = place;
     let mut at = 0;
     while at < chunk.len() {
-        let end = line_run::before_feed(chunk, at);
+        let end = line_word::before_feed(chunk, at);
         here = file_buffer::keep(line, here, &chunk[at..end]);
         if end < chunk.len() {
             here = serve(line, here, table, catalogue, out);

@@ -18,8 +18,8 @@ fn number_word(s: &[u8], at: usize) -> Number
     requires { ⌜ at ≤ length (now s) ⌝ }
     ensures { λ r. ⌜ (r ≡ numberWord (now (s .entry)) at) × numberEnds (length (now (s .entry))) r ⌝ }
 {
-    let start = line_run::after_separators(s, at);
-    let end = line_run::after_word(s, start);
+    let start = line_word::after_separators(s, at);
+    let end = line_word::after_word(s, start);
     if start == end {
         return Number::Fault(Reason::MissingWord);
     }
@@ -34,8 +34,8 @@ fn hex_word(s: &[u8], at: usize, most: usize) -> Hex
     requires { ⌜ at ≤ length (now s) ⌝ }
     ensures { λ r. ⌜ (r ≡ hexWord most (now (s .entry)) at) × hexEnds most (length (now (s .entry))) r ⌝ }
 {
-    let start = line_run::after_separators(s, at);
-    let end = line_run::after_word(s, start);
+    let start = line_word::after_separators(s, at);
+    let end = line_word::after_word(s, start);
     if start == end {
         return Hex::Fault(Reason::MissingWord);
     }
@@ -56,7 +56,7 @@ fn whole(s: &[u8], at: usize, call: Call) -> Call
     requires { ⌜ (at ≤ length (now s)) × Fits (length (now s)) call ⌝ }
     ensures { λ r. ⌜ (r ≡ whole (now (s .entry)) at call) × Fits (length (now (s .entry))) r ⌝ }
 {
-    if line_run::after_separators(s, at) < s.len() {
+    if line_word::after_separators(s, at) < s.len() {
         return Call::Fault(Reason::ExtraWord);
     }
     call
@@ -149,25 +149,25 @@ fn word(s: &[u8], at: usize) -> Call
 pub fn read(s: &[u8]) -> Call
     ensures { λ r. ⌜ (r ≡ callOf (now (s .entry))) × Fits (length (now (s .entry))) r ⌝ }
 {
-    let start = line_run::after_separators(s, 0);
-    let end = line_run::after_word(s, start);
+    let start = line_word::after_separators(s, 0);
+    let end = line_word::after_word(s, start);
     if start == end {
         return Call::Nothing;
     }
     let name = &s[start..end];
-    if line_run::same(name, b"catalogue") {
+    if line_word::same(name, b"catalogue") {
         return catalogue(s, end);
     }
-    if line_run::same(name, b"connect") {
+    if line_word::same(name, b"connect") {
         return connect(s, end);
     }
-    if line_run::same(name, b"open") {
+    if line_word::same(name, b"open") {
         return open(s, end);
     }
-    if line_run::same(name, b"message") {
+    if line_word::same(name, b"message") {
         return message(s, end);
     }
-    if line_run::same(name, b"word") {
+    if line_word::same(name, b"word") {
         return word(s, end);
     }
     Call::Fault(Reason::UnknownCall)

@@ -41,7 +41,7 @@ fn bind(block: &mut [u32], m: &[u8], reply: &mut [u8], msg: u32) -> Answered
         return message_gate::refuse(reply, msg, 12);
     }
     rebind(block, handle, &records, count, width);
-    wire_lay_header::lay_header(reply, msg, 0);
+    wire_lay_word::lay_header(reply, msg, 0);
     Answered {
         refusal: 0,
         count: 16,

@@ -46,7 +46,7 @@ pub fn free(block: &mut [u32], m: &[u8], reply: &mut [u8], msg: u32) -> Answered
     }
     close(block, handle);
     let left = table_handle::open_count(block);
-    wire_lay_header::lay_header(reply, msg, 0);
+    wire_lay_word::lay_header(reply, msg, 0);
     wire_lay_word::lay_word(reply, 16, left as u64);
     Answered {
         refusal: 0,

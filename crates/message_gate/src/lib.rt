@@ -1,13 +1,46 @@
-// What every message is judged by: its kind, refusals 6 to 8, and the reply of a refusal.
+// What every message is judged by: its kind, refusals 6 to 8, and the reply of a refusal with its status.
 ghost use mathlib.Core.Path.{_≡_};
 ghost use Prim.Native.Nat.{_≤_, _<_};
 ghost use lib.ListN.{length};
+ghost use Rattle.refusal.specs.Refusal.{statusOf, firstCause};
 ghost use Rattle.wire.specs.Laid.{lay, fourWords};
 ghost use Rattle.table.specs.Layout.{seatSize};
 ghost use Rattle.table.specs.Seat.{seatOf};
-ghost use Rattle.refusal.specs.Refusal.{firstCause, statusOf};
 ghost use Rattle.message.specs.Message.{kinds, kindOf, tested, msgOf, gateCauses};
 use message::Answered;
+
+const REFUSALS: u32 = 17;
+
+// The statuses of the refusals, by number; those of 0 to 5 are never sent.
+const STATUSES: [u32; 17] = [
+    0,
+    0,
+    0,
+    0,
+    0,
+    0,
+    0xC000000D,
+    0xC000000D,
+    0xC000000D,
+    0xC000000D,
+    0x80004005,
+    0x8000FFFF,
+    0x80040E08,
+    0xC00000BB,
+    0xC000009A,
+    0xC0000023,
+    0xC000000D,
+];
+
+// The status of a refusal, 0 of a number that is none.
+pub fn status(refusal: u32) -> u32
+    ensures { λ r. ⌜ r ≡ statusOf refusal ⌝ }
+{
+    if refusal < REFUSALS {
+        return STATUSES[refusal as usize];
+    }
+    0
+}
 
 // The messages served: each its number, and 1 where its checksum is tested.
 const MESSAGES: [u32; 8] = [0xC9, 0, 0xCB, 0, 0xCC, 1, 0xD0, 1];
@@ -64,7 +97,7 @@ pub fn refuse(reply: &mut [u8], msg: u32, refusal: u32) -> Answered
     requires { ⌜ (16 ≤ length (now reply)) × (refusal < 17) ⌝ }
     ensures { λ r. ⌜ (r ≡ record { refusal = refusal; count = 16 }) × (now (reply .exit) ≡ lay (now (reply .entry)) 0 (fourWords msg (statusOf refusal) 0 0)) ⌝ }
 {
-    let sent = message_status::status(refusal);
-    wire_lay_header::lay_header(reply, msg, sent);
+    let sent = status(refusal);
+    wire_lay_word::lay_header(reply, msg, sent);
     Answered { refusal, count: 16 }
 }

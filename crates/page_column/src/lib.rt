@@ -1,13 +1,96 @@
 // A column of a row written into a reply: its block, cell, status byte and length.
 ghost use mathlib.Core.Path.{_≡_};
-ghost use Prim.Native.Nat.{_-_};
+ghost use mathlib.Core.List.{[], _∷_, _++_};
+ghost use Prim.Native.Nat.{_+_, _*_, _≤_, _<_, _-_};
 ghost use lib.ListN.{length};
-ghost use Rattle.catalogue.specs.Places.{rowOf};
-ghost use Rattle.wire.specs.Laid.{lays};
-ghost use Rattle.page.specs.Cell.{blockRoom, columnSpans};
-ghost use Rattle.page.specs.Stands.{ColumnReady};
+ghost use Rattle.lists.specs.Below.{pick};
+ghost use Rattle.wire.specs.Word.{le, halves};
+ghost use Rattle.catalogue.specs.Places.{unitsPart, rowOf};
+ghost use Rattle.wire.specs.Property.{lengthSize};
+ghost use Rattle.bindings.specs.Fit.{isUsed};
+ghost use Rattle.wire.specs.Laid.{lay, lays};
+ghost use Rattle.page.specs.Field.{fieldSeen};
+ghost use Rattle.page.specs.Cell.{cellBytes, blockOf, blockSize, blockSpan, laidIf, blockRoom, columnSpans};
+ghost use Rattle.page.specs.Stands.{TextStands, FieldStands, ColumnIn, ColumnReady};
 use bindings::Column;
 use catalogue::Fields;
+use catalogue::Text;
+use page::FieldAt;
+
+// A text's block: its units and one zero unit.
+fn lay_text(reply: &mut [u8], s: &[u8], text: Text, place: usize)
+    requires { ⌜ TextStands (now s) text × (0 < text .size) × (place + 2 * text .size ≤ length (now reply)) ⌝ }
+    ensures { λ _. ⌜ now (reply .exit) ≡ lay (now (reply .entry)) place (blockOf (halves (unitsPart (now (s .entry)) text))) ⌝ }
+{
+    let units = catalogue_row::units(s, text);
+    wire_lay::lay_bytes(reply, place, units);
+    let end = place + units.len();
+    wire_lay_word::lay_half(reply, end, 0);
+}
+
+// A field's block, where the value is used and there is one.
+pub fn lay_block(reply: &mut [u8], s: &[u8], used: u32, field: FieldAt, place: usize)
+    requires { ⌜ FieldStands (now s) field × (place + pick (isUsed used) (blockSize (fieldSeen (now s) field)) 0 ≤ length (now reply)) ⌝ }
+    ensures { λ _. ⌜ now (reply .exit) ≡ lays (now (reply .entry)) (pick (isUsed used) (blockSpan place (fieldSeen (now (s .entry)) field)) []) ⌝ }
+{
+    if used != 1 {
+        return;
+    }
+    match field {
+        FieldAt::NumberIs(_) => {}
+        FieldAt::TextIs(text) => lay_text(reply, s, text, place),
+        FieldAt::Absent => {}
+    }
+}
+
+// A cell of sixteen bytes: the type, six zeros, and the number in the first bytes of the other eight.
+fn lay_variant(reply: &mut [u8], at: usize, kind: u64, number: u64)
+    requires { ⌜ at + 16 ≤ length (now reply) ⌝ }
+    ensures { λ _. ⌜ now (reply .exit) ≡ lay (now (reply .entry)) at (le 8 kind ++ le 8 number) ⌝ }
+{
+    wire_lay_word::lay_long(reply, at, kind);
+    wire_lay_word::lay_long(reply, at + 8, number);
+}
+
+// A column's cell, where its value is used.
+pub fn lay_value(reply: &mut [u8], column: Column, row: usize, kind: u64, number: u64)
+    requires { ⌜ ColumnIn (length (now reply)) row column ⌝ }
+    ensures { λ _. ⌜ now (reply .exit) ≡ lays (now (reply .entry)) (laidIf (column .value .used) (row + column .value .offset) (cellBytes (column .property) (column .vtype) kind number)) ⌝ }
+{
+    if column.value.used != 1 {
+        return;
+    }
+    let at = row + (column.value.offset as usize);
+    if column.vtype == wire::VARIANT_TYPE {
+        lay_variant(reply, at, kind, number);
+        return;
+    }
+    wire_lay_word::lay_word(reply, at, number);
+}
+
+// A column's status byte, where it is used.
+pub fn lay_status(reply: &mut [u8], column: Column, row: usize, status: u8)
+    requires { ⌜ ColumnIn (length (now reply)) row column ⌝ }
+    ensures { λ _. ⌜ now (reply .exit) ≡ lays (now (reply .entry)) (laidIf (column .status .used) (row + column .status .offset) (status ∷ [])) ⌝ }
+{
+    if column.status.used != 1 {
+        return;
+    }
+    let at = row + (column.status.offset as usize);
+    wire_lay::lay_byte(reply, at, status);
+}
+
+// A column's length, where it is used.
+pub fn lay_length(reply: &mut [u8], column: Column, row: usize, value: u64)
+    requires { ⌜ ColumnIn (length (now reply)) row column ⌝ }
+    ensures { λ _. ⌜ now (reply .exit) ≡ lays (now (reply .entry)) (laidIf (column .length .used) (row + column .length .offset) (le lengthSize value)) ⌝ }
+{
+    if column.length.used != 1 {
+        return;
+    }
+    let at = row + (column.length.offset as usize);
+    wire_lay_word::lay_word(reply, at, value);
+}
 
 // All of a column in the row at `row`, its block ending at `top`: the block's place is given back.
 pub fn lay_column(
@@ -23,19 +106,19 @@ pub fn lay_column(
     ensures { λ r. ⌜ r ≡ top - blockRoom column (rowOf (now (s .entry)) fields) ⌝ }
     ensures { λ r. ⌜ now (reply .exit) ≡ lays (now (reply .entry)) (columnSpans base row r column (rowOf (now (s .entry)) fields)) ⌝ }
 {
-    let found = page_lookup::field(fields, column.property);
+    let found = page_field::field(fields, column.property);
     let place = top - page_field::room_of(column.value.used, found);
-    page_lay::lay_block(reply, s, column.value.used, found, place);
+    lay_block(reply, s, column.value.used, found, place);
     let offset = base + (place as u64);
-    page_lay::lay_value(
+    lay_value(
         reply,
         column,
         row,
         page_field::kind(found, column.property),
         page_field::content(found, offset),
     );
-    page_lay::lay_status(reply, column, row, page_field::status(found));
-    page_lay::lay_length(
+    lay_status(reply, column, row, page_field::status(found));
+    lay_length(
         reply,
         column,
         row,

@@ -1,14 +1,43 @@
-// What is sent of a field: its status, its length, its cell, and the room of its block.
+// The field of a row that a property names, and what is sent of it: its status, length, cell, and block's room.
 ghost use mathlib.Core.Path.{_≡_};
+ghost use Rattle.page.specs.Field.{textFieldAt, fieldAt, fieldSeen};
 ghost use Rattle.catalogue.specs.Places.{rowOf};
 ghost use Rattle.lists.specs.Below.{pick};
 ghost use Rattle.bindings.specs.Fit.{isUsed};
-ghost use Rattle.page.specs.Field.{fieldSeen};
 ghost use Rattle.page.specs.Cell.{statusOf, lengthOf, kindOf, contentOf, blockSize, blockRoom};
 ghost use Rattle.page.specs.Stands.{InAny, FieldStands, FieldsStand, FieldSmall, FieldsSmall};
 use bindings::Column;
 use catalogue::Fields;
+use catalogue::Text;
 use page::FieldAt;
+
+fn text_field(text: Text) -> FieldAt
+    ensures { λ r. ⌜ r ≡ textFieldAt text ⌝ }
+{
+    if text.size == 0 {
+        return FieldAt::Absent;
+    }
+    FieldAt::TextIs(text)
+}
+
+// The field of a property.
+pub fn field(fields: Fields, property: u32) -> FieldAt
+    ensures { λ r. ⌜ r ≡ fieldAt property fields ⌝ }
+{
+    if property == wire::KEY {
+        return FieldAt::NumberIs(fields.key);
+    }
+    if property == wire::LANGUAGE {
+        return FieldAt::NumberIs(fields.language);
+    }
+    if property == wire::DEFAULT {
+        return FieldAt::NumberIs(fields.default);
+    }
+    if property == wire::LABEL {
+        return text_field(fields.label);
+    }
+    text_field(fields.note)
+}
 
 const TEXT_TYPE: u64 = 0x001F;
 
@@ -44,7 +73,7 @@ pub fn length_sent(field: FieldAt, property: u32) -> u64
     ensures { λ r. ⌜ InAny (λ s. FieldStands s field → r ≡ lengthOf property (fieldSeen s field)) ⌝ }
 {
     match field {
-        FieldAt::NumberIs(_) => bindings_column::number_size(property) as u64,
+        FieldAt::NumberIs(_) => bindings_property::number_size(property) as u64,
         FieldAt::TextIs(text) => {
             let size = text.size;
             2 * (size as u64)
@@ -58,7 +87,7 @@ pub fn kind(field: FieldAt, property: u32) -> u64
     ensures { λ r. ⌜ InAny (λ s. r ≡ kindOf property (fieldSeen s field)) ⌝ }
 {
     match field {
-        FieldAt::NumberIs(_) => bindings_column::number_type(property) as u64,
+        FieldAt::NumberIs(_) => bindings_property::number_type(property) as u64,
         FieldAt::TextIs(_) => TEXT_TYPE,
         FieldAt::Absent => 0,
     }
@@ -91,6 +120,6 @@ pub fn block_room(column: Column, fields: Fields) -> usize
     requires { ⌜ FieldsSmall fields ⌝ }
     ensures { λ r. ⌜ InAny (λ s. FieldsStand s fields → r ≡ blockRoom column (rowOf s fields)) ⌝ }
 {
-    let found = page_lookup::field(fields, column.property);
+    let found = field(fields, column.property);
     room_of(column.value.used, found)
 }

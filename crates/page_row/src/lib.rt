@@ -33,7 +33,7 @@ pub fn row_blocks(s: &[u8], at: usize, fields: Fields, words: &[u32], bound: usi
     let mut k = 0;
     let mut left = bound;
     while 0 < left {
-        let column = page_lookup::column_at(words, k);
+        let column = bindings_record::column_at(words, k);
         total += page_field::block_room(column, fields);
         k += 1;
         left -= 1;
@@ -54,7 +54,7 @@ pub fn room_of(
     ensures { λ r. ⌜ r ≡ width + blocks (columnsOf bound (now (words .entry))) (rowSeen (now (s .entry)) (getD (now (places .entry)) (row .0) 0)) ⌝ }
 {
     let at = place_of(places, row);
-    let fields = page_lookup::fields_at(s, at);
+    let fields = catalogue_row::fields_at(s, at);
     width + row_blocks(s, at, fields, words, bound)
 }
 
@@ -78,7 +78,7 @@ pub fn lay_row(
     let mut k = 0;
     let mut left = bound;
     while 0 < left {
-        let column = page_lookup::column_at(words, k);
+        let column = bindings_record::column_at(words, k);
         place = page_column::lay_column(reply, s, fields, column, base, row, place);
         k += 1;
         left -= 1;

@@ -1,14 +1,58 @@
-// A cursor opened in its seat, on the rows that a query selects.
+// Opening a query on a seat: refusals 7, 14 and 16, and the cursor with the rows selected.
 ghost use mathlib.Core.Path.{_≡_};
+ghost use lib.ListN.{length};
 ghost use mathlib.Core.Bool.{true};
 ghost use mathlib.Core.Option.{none, some};
-ghost use lib.ListN.{length};
 ghost use Rattle.table.specs.Layout.{seatSize, cursorSize, cursorPlace, part, put};
-ghost use Rattle.table.specs.Seat.{cursorBlock, opened};
+ghost use Rattle.table.specs.Seat.{seatIn, seatOf, cursorBlock, opened};
+ghost use Rattle.query.specs.Open.{freeHandle};
+ghost use Rattle.query.specs.Answer.{Judged};
 ghost use Rattle.tree.specs.Reader.{restriction};
 ghost use Rattle.tree.specs.Answer.{isTree};
 ghost use Rattle.tree.specs.Select.{selected};
 ghost use Rattle.tree.specs.Noted.{Noted};
+use query::Opened;
+
+// The lowest free handle, or 0.
+fn free_handle(block: &[u32]) -> u32
+    requires { ⌜ length (now block) ≡ seatSize ⌝ }
+    ensures { λ r. ⌜ r ≡ freeHandle (seatIn (now (block .entry))) ⌝ }
+{
+    if !table_handle::is_open(block, 1) {
+        return 1;
+    }
+    if !table_handle::is_open(block, 2) {
+        return 2;
+    }
+    0
+}
+
+// Refusals 7, 14 and 16 on a seat's block, or the handle to open.
+pub fn judge(block: &[u32], tree: &[u8]) -> Opened
+    requires { ⌜ length (now block) ≡ seatSize ⌝ }
+    ensures { λ r. ⌜ Judged (seatOf (now (block .entry))) (now (tree .entry)) r ⌝ }
+{
+    if block[0] == 0 {
+        return Opened {
+            refusal: 7,
+            handle: 0,
+        };
+    }
+    let handle = free_handle(block);
+    if handle == 0 {
+        return Opened {
+            refusal: 14,
+            handle: 0,
+        };
+    }
+    if !tree_read::well_formed(tree) {
+        return Opened {
+            refusal: 16,
+            handle: 0,
+        };
+    }
+    Opened { refusal: 0, handle }
+}
 
 // Opens a closed cursor on the rows that a tree selects.
 fn fill(block: &mut [u32], tree: &[u8], catalogue: &[u8], rows: u32, places: &[u32; 1024])

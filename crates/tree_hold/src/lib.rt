@@ -45,11 +45,11 @@ fn content_told(s: &[u8], at: usize, catalogue: &[u8], row: Fields) -> usize
     ensures { λ r. ⌜ r ≡ contentTold (now (s .entry)) at (now (catalogue .entry)) row ⌝ }
 {
     let property = wire_word::word(s, at + 28);
-    let size = at + 32 + tree_part::padding(at + 32);
+    let size = at + 32 + tree_leaf::padding(at + 32);
     let count = wire_word::word(s, size) as usize;
     let start = size + 4;
     let end = start + 2 * count;
-    let locale = end + tree_part::padding(end);
+    let locale = end + tree_leaf::padding(end);
     let method = wire_word::word(s, locale + 4);
     let text = tree_match::text_of(property, row);
     let holds = tree_match::phrase_holds(&s[start..end], method, catalogue, text);
@@ -93,7 +93,7 @@ fn list_told(kind: u32, s: &[u8], at: usize, levels: u32, catalogue: &[u8], row:
     let mut place = at + LIST_HEAD;
     let mut holds = kind == AND;
     while 0 < left {
-        let child = place + tree_part::padding(place);
+        let child = place + tree_leaf::padding(place);
         let answer = node_told(s, child, levels, catalogue, row);
         holds = tree_verdict::with_child(kind, holds, answer % 2 == 1);
         place = answer / 2;

@@ -1,12 +1,85 @@
-// The reader of a leaf of a restriction tree: the parts of one, from bytes.
+// The leaves of a tree: their parts, padding and properties, and the leaf at a place.
 ghost use mathlib.Core.Path.{_≡_};
-ghost use Prim.Native.Nat.{_^_, _≤_, _<_};
+ghost use Prim.Native.Nat.{_+_, _≤_, _^_, _<_};
+ghost use lib.Dec.{leb};
+ghost use lib.ListN.{length};
+ghost use Rattle.lists.specs.Below.{both};
+ghost use Rattle.wire.specs.Padding.{padding, zeros};
+ghost use Rattle.wire.specs.PropertyAt.{isSet, propertySize, propertyAt};
 ghost use Rattle.tree.specs.Parts.{phraseAt, contentAt, relationAt, leafAt};
 use tree::Content;
 use tree::LeafAt;
 use tree::Parts;
 use tree::PhraseAt;
 use tree::Relation;
+
+// The ulKind of a numbered property.
+const NUMBERED: u32 = 1;
+
+// How many bytes stand between a place and the next multiple of four.
+pub fn padding(place: usize) -> usize
+    ensures { λ r. ⌜ r ≡ padding place ⌝ }
+{
+    (4 - place % 4) % 4
+}
+
+// Whether n bytes from an index on are zero.
+pub fn zeros(s: &[u8], at: usize, n: usize) -> bool
+    requires { ⌜ at + n ≤ length (now s) ⌝ }
+    ensures { λ r. ⌜ r ≡ zeros (now (s .entry)) at n ⌝ }
+{
+    let mut i = 0;
+    while i < n {
+        if s[at + i] != 0 {
+            return false;
+        }
+        i += 1;
+    }
+    true
+}
+
+// Whether the set identifier at an index is ours.
+fn is_set(s: &[u8], at: usize) -> bool
+    requires { ⌜ at + 16 ≤ length (now s) ⌝ }
+    ensures { λ r. ⌜ r ≡ isSet (now (s .entry)) at ⌝ }
+{
+    let mut i = 0;
+    while i < 16 {
+        if s[at + i] as usize != 0x10 + i {
+            return false;
+        }
+        i += 1;
+    }
+    true
+}
+
+// The number of the property that stands at an index, or 0 where it is not one of ours.
+pub fn property(s: &[u8], at: usize) -> u32
+    requires { ⌜ at + propertySize ≤ length (now s) ⌝ }
+    ensures { λ r. ⌜ r ≡ propertyAt (now (s .entry)) at ⌝ }
+{
+    if both(is_set(s, at), wire_word::word(s, at + 16) == NUMBERED) {
+        return wire_word::word(s, at + 20);
+    }
+    0
+}
+
+// Both tests hold. Neither is left out for the other's sake.
+pub fn both(a: bool, b: bool) -> bool
+    ensures { λ r. ⌜ r ≡ both a b ⌝ }
+{
+    if a {
+        return b;
+    }
+    false
+}
+
+// Whether a number lies from one to another.
+pub fn within(low: u32, x: u32, high: u32) -> bool
+    ensures { λ r. ⌜ r ≡ both (leb low x) (leb x high) ⌝ }
+{
+    both(low <= x, x <= high)
+}
 
 const PHRASE_MOST: u32 = 64;
 
@@ -34,7 +107,7 @@ fn read_phrase(s: &[u8], place: usize, at: usize) -> PhraseAt
     requires { ⌜ (place < 2 ^ 62) × (at ≤ 2 ^ 61) ⌝ }
     ensures { λ r. ⌜ r ≡ phraseAt (now (s .entry)) place at ⌝ }
 {
-    let before = tree_part::padding(place + at);
+    let before = padding(place + at);
     let size = at + before;
     let start = size + 4;
     if s.len() < start {
@@ -43,16 +116,13 @@ fn read_phrase(s: &[u8], place: usize, at: usize) -> PhraseAt
     let units = wire_word::word(s, size);
     let count = units as usize;
     let end = start + 2 * count;
-    let after = tree_part::padding(place + end);
+    let after = padding(place + end);
     let next = end + after;
     if s.len() < next {
         return PhraseAt::NoPhrase;
     }
-    let clear = tree_part::both(
-        tree_part::zeros(s, at, before),
-        tree_part::zeros(s, end, after),
-    );
-    if tree_part::both(tree_part::within(1, units, PHRASE_MOST), clear) {
+    let clear = both(zeros(s, at, before), zeros(s, end, after));
+    if both(within(1, units, PHRASE_MOST), clear) {
         return PhraseAt::PhraseTo(start, count, next);
     }
     PhraseAt::NoPhrase
@@ -70,9 +140,9 @@ fn read_content(s: &[u8], place: usize) -> LeafAt
     if s.len() < used {
         return LeafAt::NoLeaf;
     }
-    let property = tree_part::property(s, 8);
+    let property = property(s, 8);
     let method = wire_word::word(s, locale + 4);
-    if tree_part::both(tree_part::within(LABEL, property, NOTE), method <= 1) {
+    if both(within(LABEL, property, NOTE), method <= 1) {
         return LeafAt::LeafTo(
             Parts::OfContent(Content {
                 property,
@@ -94,16 +164,13 @@ fn read_relation(s: &[u8]) -> LeafAt
         return LeafAt::NoLeaf;
     }
     let relop = wire_word::word(s, 8);
-    let property = tree_part::property(s, 12);
-    let typed = tree_part::both(
+    let property = property(s, 12);
+    let typed = both(
         wire_word::half(s, 36) == NUMBER_TYPE,
         wire_word::half(s, 38) == 0,
     );
     let value = wire_word::word(s, 40) as u64;
-    if tree_part::both(
-        tree_part::both(relop <= 5, tree_part::within(KEY, property, DEFAULT)),
-        typed,
-    ) {
+    if both(both(relop <= 5, within(KEY, property, DEFAULT)), typed) {
         return LeafAt::LeafTo(
             Parts::OfRelation(Relation {
                 relop,

@@ -134,11 +134,11 @@ fn children(s: &[u8], place: usize, count: u32, levels: u32, nodes: u32) -> List
     if count == 0 {
         return ListRead::Children(0, nodes);
     }
-    let start = tree_part::padding(place);
+    let start = tree_leaf::padding(place);
     if s.len() < start {
         return ListRead::NoChildren;
     }
-    if !tree_part::zeros(s, 0, start) {
+    if !tree_leaf::zeros(s, 0, start) {
         return ListRead::NoChildren;
     }
     let part = &s[start..];

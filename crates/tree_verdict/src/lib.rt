@@ -33,7 +33,7 @@ pub fn with_child(kind: u32, before: bool, child: bool) -> bool
     ensures { λ r. ⌜ r ≡ withChild kind before child ⌝ }
 {
     if kind == AND {
-        return tree_part::both(before, child);
+        return tree_leaf::both(before, child);
     }
     if before {
         return true;

@@ -13,7 +13,7 @@ use Rattle.tree_hold.proofs.leaf_told.Reads as leaf-told-reads
 use Rattle.tree_verdict.proofs.told.Reads as told-reads
 use Rattle.tree_verdict.proofs.turned.Reads as turned-reads
 use Rattle.tree_verdict.proofs.with_child.Reads as with-child-reads
-use Rattle.tree_part.proofs.padding.Reads as padding-reads
+use Rattle.tree_leaf.proofs.padding.Reads as padding-reads
 use Rattle.tree_node.proofs.is_branch.Reads as is-branch-reads
 use Rattle.wire_word.proofs.word.Reads as word-reads
 use Rattle.tree_hold.proofs.+list_told+node_told.{statement}

@@ -1,0 +1,13 @@
+-- Below the low number the first test fails; from it on, the second test is the answer. Assumes nothing.
+use Rattle.bindings_property.proofs.within.Statement.{statement}
+use Rattle.bindings_property.proofs.within.Tie as tie
+use borrow.Author.Tests.{lt-leb, le-leb}
+
+returns : tie.Need-returns
+returns c = simp (lt-leb _ _ (c .if1 .taken))
+
+returns-2 : tie.Need-returns-2
+returns-2 c = simp (le-leb _ _ (c .if1 .left))
+
+pub within-spec : {M : Type 1} → statement M
+within-spec = tie.close (tie.spec returns returns-2)

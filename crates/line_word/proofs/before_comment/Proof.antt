@@ -1,0 +1,60 @@
+-- The run from the first byte on is that from the present place on, with the bytes passed. Assumes nothing.
+use Rattle.line_word.proofs.before_comment.Statement.{statement}
+use Rattle.line_word.proofs.before_comment.Tie as tie
+use borrow.Author.Needs.{needs}
+use mathlib.Core.Path.{_≡_, sym, ap, _∙_}
+use Prim.Native.Nat.{_+_, _-_, _≤_}
+use native.Mathlib.Omega.{arith}
+use borrow.Author.Tests.{eq-eqb, ne-eqb}
+use lib.ListN.{length, drop}
+use Rattle.line.specs.Runs.{run, opposite, inCall}
+use Rattle.line.proofs.RunLaws.{run-more, run-stops, run-ends}
+
+abbrev Inv-loop : tie.InvT-loop
+Inv-loop s i₀ i = (i ≤ length s) × (run inCall s ≡ i + run inCall (drop i s))
+
+abbrev μ-loop : tie.MeasureT-loop
+μ-loop s i₀ i = length s - i
+
+loop-holds : tie.Need-loop-holds Inv-loop μ-loop
+loop-holds c = (omega arith, omega arith)
+
+shared-slice-read-if1 : tie.Need-shared-slice-read-if1 Inv-loop μ-loop
+shared-slice-read-if1 c = search needs
+
+returns : tie.Need-returns Inv-loop μ-loop
+returns c =
+    let l = c .before .before .before .loop in
+    let s = c .before .before .before .before .args .s .now in
+    (sym (l .inv .1 ∙ run-stops inCall s (l .i) (omega arith) (ap opposite (eq-eqb _ 35 (c .if1 .taken)))), l .inv .0)
+
+add-i : tie.Need-add-i Inv-loop μ-loop
+add-i c = search needs
+
+loop-less : tie.Need-loop-less Inv-loop μ-loop
+loop-less c = search needs
+
+loop-again : tie.Need-loop-again Inv-loop μ-loop
+loop-again c =
+    let l = c .before .before .before .loop in
+    let s = c .before .before .before .before .args .s .now in
+    (omega arith, l .inv .1 ∙ run-more inCall s (l .i) (omega arith) (ap opposite (ne-eqb _ 35 (c .if1 .left))))
+
+returns-2 : tie.Need-returns-2 Inv-loop μ-loop
+returns-2 c =
+    let l = c .before .loop in
+    (sym (l .inv .1 ∙ run-ends inCall (c .before .before .args .s .now) (l .i) (omega arith)), l .inv .0)
+
+pub before-comment-spec : {M : Type 1} → statement M
+before-comment-spec =
+    tie.close
+    (tie.spec
+    Inv-loop
+    μ-loop
+    loop-holds
+    shared-slice-read-if1
+    returns
+    add-i
+    loop-less
+    loop-again
+    returns-2)

@@ -1,0 +1,37 @@
+-- The units copied and a zero unit after them are the block. Assumes nothing.
+use borrow.Author.Needs.{needs}
+use Rattle.page_column.proofs.lay_text.Statement.{statement}
+use Rattle.page_column.proofs.lay_text.Tie as tie
+use mathlib.Core.Path.{ap}
+use native.Mathlib.Omega.{arith}
+use lib.ListN.{length}
+use Rattle.page.proofs.Units.{units-length, text-laid}
+
+units-requires : tie.Need-units-requires
+units-requires c κs = search needs
+
+lay-bytes-requires : tie.Need-lay-bytes-requires
+lay-bytes-requires c κs = let a = c .before .before .before .before .args in
+    omega (arith, units-length (a .s .now) (a .text) (c .before .before .before .before .pre .0), ap length (c .before .units .ensures))
+
+add-end : tie.Need-add-end
+add-end c = let a = c .before .before .before .before .before .before .before .args in
+    omega (arith, units-length (a .s .now) (a .text) (c .before .before .before .before .before .before .before .pre .0), ap length (c .before .before .before .before .units .ensures), c .before .before .before .before .before .before .before .pre, c .before .before .before .before .before .before .before .good)
+
+lay-half-requires : tie.Need-lay-half-requires
+lay-half-requires c κs = let a = c .before .before .before .before .before .before .before .before .args in
+    omega (arith, units-length (a .s .now) (a .text) (c .before .before .before .before .before .before .before .before .pre .0), ap length (c .before .before .before .before .before .units .ensures), c .before .before .before .before .before .before .before .before .pre, c .before .before .before .lay-bytes .kept)
+
+same-length : tie.Need-same-length
+same-length c = search needs
+
+returns : tie.Need-returns
+returns c = let a = c .before .before .before .before .before .before .before .before .before .before .before .args in
+    let inside = units-length (a .s .now) (a .text) (c .before .before .before .before .before .before .before .before .before .before .before .pre .0) in
+    let h = text-laid (a .s .now) (a .text) (c .before .before .before .before .before .before .before .before .before .before .before .pre .0) (a .reply .now) (a .place) (λ i. omega (arith, c .before .before .before .before .before .before .before .before .before .shared-slice-known .given i)) (omega (arith, c .before .before .before .before .before .before .before .before .before .before .before .pre)) in
+    cc (c .before .before .before .before .before .before .before .before .units .ensures, c .before .before .before .before .before .before .lay-bytes .ensures, c .before .before .lay-half .ensures)
+
+pub lay-text-spec : {M : Type 1} → statement M
+lay-text-spec =
+    tie.close
+    (tie.spec units-requires lay-bytes-requires add-end lay-half-requires same-length returns)
