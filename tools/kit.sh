@@ -67,6 +67,13 @@ plain_program() {
     if [ -n "$own_compiler" ]; then own_c "$@"; else c_program "$@"; fi
 }
 
+# generator_program PROGRAM [FLAG..]: the generator of recorded calls, by plain_program
+generator_program() {
+    local program=$1
+    shift
+    plain_program "$program" peer/generate/*.c peer/server.c "$@"
+}
+
 # run_plain PROGRAM [ARGUMENT..]: what plain_program made
 run_plain() {
     if [ -n "$own_compiler" ]; then "$@"; else run_program "$@"; fi
