@@ -12,13 +12,13 @@ use wire::VARIANT_SIZE;
 use wire::VARIANT_TYPE;
 
 // Whether a number is one of those from low to high.
-pub fn within(low: u32, high: u32, n: u32) -> bool
-    ensures { λ r. ⌜ r ≡ within low high n ⌝ }
+pub fn within(low: u32, high: u32, number: u32) -> bool
+    ensures { λ r. ⌜ r ≡ within low high number ⌝ }
 {
-    if n < low {
+    if number < low {
         return false;
     }
-    n <= high
+    number <= high
 }
 
 pub fn number_type(property: u32) -> u32
@@ -50,15 +50,15 @@ pub fn cell_size(property: u32, vtype: u32) -> u32
 }
 
 // The type and size of the k-th column, against its property.
-fn column_fits(words: &[u32], k: usize) -> bool
-    requires { ⌜ (length (now words) ≡ roomWords) × (k < columnsMost) ⌝ }
-    ensures { λ r. ⌜ r ≡ columnFits (columnAt (now (words .entry)) k) ⌝ }
+fn column_fits(records: &[u32], index: usize) -> bool
+    requires { ⌜ (length (now records) ≡ roomWords) × (index < columnsMost) ⌝ }
+    ensures { λ r. ⌜ r ≡ columnFits (columnAt (now (records .entry)) index) ⌝ }
 {
-    let at = bindings::COLUMN_WORDS * k;
-    let property = words[at];
-    let vtype = words[at + 1];
-    let used = words[at + 2];
-    let given = words[at + 4];
+    let at = bindings::COLUMN_WORDS * index;
+    let property = records[at];
+    let vtype = records[at + 1];
+    let used = records[at + 2];
+    let given = records[at + 4];
     if !within(wire::KEY, wire::NOTE, property) {
         return false;
     }
@@ -73,14 +73,14 @@ fn column_fits(words: &[u32], k: usize) -> bool
 }
 
 // The type and size of each column.
-pub fn columns_fit(words: &[u32], count: usize) -> bool
-    requires { ⌜ (length (now words) ≡ roomWords) × (count ≤ columnsMost) ⌝ }
-    ensures { λ r. ⌜ r ≡ every columnFits (columnsOf count (now (words .entry))) ⌝ }
+pub fn columns_fit(records: &[u32], count: usize) -> bool
+    requires { ⌜ (length (now records) ≡ roomWords) × (count ≤ columnsMost) ⌝ }
+    ensures { λ r. ⌜ r ≡ every columnFits (columnsOf count (now (records .entry))) ⌝ }
 {
     let mut k = 0;
     let mut left = count;
     while 0 < left {
-        if !column_fits(words, k) {
+        if !column_fits(records, k) {
             return false;
         }
         k += 1;
@@ -90,14 +90,14 @@ pub fn columns_fit(words: &[u32], count: usize) -> bool
 }
 
 // Whether none of so many columns from one on has a property.
-fn unbound(words: &[u32], from: usize, count: usize, property: u32) -> bool
-    requires { ⌜ (length (now words) ≡ roomWords) × (from + count ≤ columnsMost) ⌝ }
-    ensures { λ r. ⌜ r ≡ every (unlike property) (columnsFrom count from (now (words .entry))) ⌝ }
+fn unbound(records: &[u32], from: usize, count: usize, property: u32) -> bool
+    requires { ⌜ (length (now records) ≡ roomWords) × (from + count ≤ columnsMost) ⌝ }
+    ensures { λ r. ⌜ r ≡ every (unlike property) (columnsFrom count from (now (records .entry))) ⌝ }
 {
     let mut k = from;
     let mut left = count;
     while 0 < left {
-        if words[bindings::COLUMN_WORDS * k] == property {
+        if records[bindings::COLUMN_WORDS * k] == property {
             return false;
         }
         k += 1;
@@ -107,17 +107,17 @@ fn unbound(words: &[u32], from: usize, count: usize, property: u32) -> bool
 }
 
 // Whether no property is bound twice.
-pub fn bound_once(words: &[u32], count: usize) -> bool
-    requires { ⌜ (length (now words) ≡ roomWords) × (count ≤ columnsMost) ⌝ }
-    ensures { λ r. ⌜ r ≡ pairwise differ (columnsOf count (now (words .entry))) ⌝ }
+pub fn bound_once(records: &[u32], count: usize) -> bool
+    requires { ⌜ (length (now records) ≡ roomWords) × (count ≤ columnsMost) ⌝ }
+    ensures { λ r. ⌜ r ≡ pairwise differ (columnsOf count (now (records .entry))) ⌝ }
 {
     let mut k = 0;
     let mut left = count;
     while 0 < left {
-        let property = words[bindings::COLUMN_WORDS * k];
+        let property = records[bindings::COLUMN_WORDS * k];
         k += 1;
         left -= 1;
-        if !unbound(words, k, left, property) {
+        if !unbound(records, k, left, property) {
             return false;
         }
     }

@@ -19,29 +19,29 @@ use wire::PlaceRead;
 const TYPE_WIDTH: usize = 4;
 
 // A flag, and the offset that follows it where it is set.
-fn spot_on(m: &[u8], at: usize) -> SpotRead
-    ensures { λ r. ⌜ r ≡ spotOn (now (m .entry)) at ⌝ }
+fn spot_on(message: &[u8], at: usize) -> SpotRead
+    ensures { λ r. ⌜ r ≡ spotOn (now (message .entry)) at ⌝ }
 {
-    let NumberRead::Number(used, next) = wire_field::flag_on(m, at) else {
+    let NumberRead::Number(used, next) = wire_field::flag_on(message, at) else {
         return SpotRead::Malformed;
     };
     if used == 0 {
         return SpotRead::At(Spot { used: 0, offset: 0 }, next);
     }
-    let PlaceRead::Place(place) = wire_field::padded_on(m, next, 2) else {
+    let PlaceRead::Place(place) = wire_field::padded_on(message, next, 2) else {
         return SpotRead::Malformed;
     };
-    let NumberRead::Number(offset, after) = wire_field::number_on(m, place, 2) else {
+    let NumberRead::Number(offset, after) = wire_field::number_on(message, place, 2) else {
         return SpotRead::Malformed;
     };
     SpotRead::At(Spot { used, offset }, after)
 }
 
 // The same with the size that follows the offset.
-fn value_on(m: &[u8], at: usize) -> ValueRead
-    ensures { λ r. ⌜ r ≡ valueOn (now (m .entry)) at ⌝ }
+fn value_on(message: &[u8], at: usize) -> ValueRead
+    ensures { λ r. ⌜ r ≡ valueOn (now (message .entry)) at ⌝ }
 {
-    let SpotRead::At(spot, next) = spot_on(m, at) else {
+    let SpotRead::At(spot, next) = spot_on(message, at) else {
         return ValueRead::Malformed;
     };
     let used = spot.used;
@@ -56,29 +56,29 @@ fn value_on(m: &[u8], at: usize) -> ValueRead
             next,
         );
     }
-    let NumberRead::Number(size, after) = wire_field::number_on(m, next, 2) else {
+    let NumberRead::Number(size, after) = wire_field::number_on(message, next, 2) else {
         return ValueRead::Malformed;
     };
     ValueRead::At(Value { used, offset, size }, after)
 }
 
 // A column.
-pub fn column_on(m: &[u8], at: usize) -> ColumnRead
-    ensures { λ r. ⌜ r ≡ columnOn (now (m .entry)) at ⌝ }
+pub fn column_on(message: &[u8], at: usize) -> ColumnRead
+    ensures { λ r. ⌜ r ≡ columnOn (now (message .entry)) at ⌝ }
 {
-    let NumberRead::Number(property, a) = wire_field::property_on(m, at) else {
+    let NumberRead::Number(property, a) = wire_field::property_on(message, at) else {
         return ColumnRead::Malformed;
     };
-    let NumberRead::Number(vtype, b) = wire_field::number_on(m, a, TYPE_WIDTH) else {
+    let NumberRead::Number(vtype, b) = wire_field::number_on(message, a, TYPE_WIDTH) else {
         return ColumnRead::Malformed;
     };
-    let ValueRead::At(value, c) = value_on(m, b) else {
+    let ValueRead::At(value, c) = value_on(message, b) else {
         return ColumnRead::Malformed;
     };
-    let SpotRead::At(status, d) = spot_on(m, c) else {
+    let SpotRead::At(status, d) = spot_on(message, c) else {
         return ColumnRead::Malformed;
     };
-    let SpotRead::At(length, e) = spot_on(m, d) else {
+    let SpotRead::At(length, e) = spot_on(message, d) else {
         return ColumnRead::Malformed;
     };
     ColumnRead::At(
@@ -105,26 +105,26 @@ const COUNT_AT: usize = 32;
 const COLUMNS_AT: usize = 36;
 
 // Reads the columns, to the message's end, and keeps the first five. False where they are malformed.
-fn read_columns(m: &[u8], count: u32, words: &mut [u32]) -> bool
-    requires { ⌜ length (now words) ≡ roomWords ⌝ }
-    ensures { λ r. ⌜ keptOr r (now (words .exit)) ≡ keeping 0 (now (words .entry)) (columnsOn count (now (m .entry)) columnsAt) ⌝ }
+fn read_columns(message: &[u8], count: u32, records: &mut [u32]) -> bool
+    requires { ⌜ length (now records) ≡ roomWords ⌝ }
+    ensures { λ r. ⌜ keptOr r (now (records .exit)) ≡ keeping 0 (now (records .entry)) (columnsOn count (now (message .entry)) columnsAt) ⌝ }
 {
     let mut at = COLUMNS_AT;
     let mut k: usize = 0;
     let mut left = count;
     while 0 < left {
-        let PlaceRead::Place(place) = wire_field::padded_on(m, at, 4) else {
+        let PlaceRead::Place(place) = wire_field::padded_on(message, at, 4) else {
             return false;
         };
-        let ColumnRead::At(column, next) = column_on(m, place) else {
+        let ColumnRead::At(column, next) = column_on(message, place) else {
             return false;
         };
-        bindings_record::keep(words, k, column);
+        bindings_record::keep(records, k, column);
         at = next;
         k += 1;
         left -= 1;
     }
-    at == m.len()
+    at == message.len()
 }
 
 // The answer to a message that is malformed.
@@ -141,25 +141,25 @@ fn refused() -> BindingsRead
 
 // Reads a message that sets bindings: handle, row width and count of columns, and in `words`, nine to a column, the first five
 // columns, zero past the last. A malformed message leaves zeros.
-pub fn read(m: &[u8], words: &mut [u32]) -> BindingsRead
-    requires { ⌜ length (now words) ≡ roomWords ⌝ }
-    ensures { λ r. ⌜ Told (now (m .entry)) r (now (words .exit)) ⌝ }
+pub fn read(message: &[u8], records: &mut [u32]) -> BindingsRead
+    requires { ⌜ length (now records) ≡ roomWords ⌝ }
+    ensures { λ r. ⌜ Told (now (message .entry)) r (now (records .exit)) ⌝ }
 {
-    bindings_record::clear(words);
-    if m.len() < COLUMNS_AT {
+    bindings_record::clear(records);
+    if message.len() < COLUMNS_AT {
         return refused();
     }
-    let described = wire_word::word(m, DESCRIBED_AT) as usize;
-    if described != m.len() - COUNT_AT {
+    let described = wire_word::word(message, DESCRIBED_AT) as usize;
+    if described != message.len() - COUNT_AT {
         return refused();
     }
-    let count = wire_word::word(m, COUNT_AT);
-    if !read_columns(m, count, words) {
-        bindings_record::clear(words);
+    let count = wire_word::word(message, COUNT_AT);
+    if !read_columns(message, count, records) {
+        bindings_record::clear(records);
         return refused();
     }
-    let handle = wire_word::word(m, HANDLE_AT);
-    let width = wire_word::word(m, WIDTH_AT);
+    let handle = wire_word::word(message, HANDLE_AT);
+    let width = wire_word::word(message, WIDTH_AT);
     BindingsRead {
         malformed: false,
         handle,

@@ -8,59 +8,59 @@ use bindings::Spot;
 use bindings::Value;
 
 // Clears the room for five columns.
-pub fn clear(words: &mut [u32])
-    requires { ⌜ length (now words) ≡ roomWords ⌝ }
-    ensures { λ _. ⌜ now (words .exit) ≡ noWords ⌝ }
+pub fn clear(records: &mut [u32])
+    requires { ⌜ length (now records) ≡ roomWords ⌝ }
+    ensures { λ _. ⌜ now (records .exit) ≡ noWords ⌝ }
 {
     let mut i = 0;
-    while i < words.len() {
-        words[i] = 0;
+    while i < records.len() {
+        records[i] = 0;
         i += 1;
     }
 }
 
 // Keeps a column as the k-th record, where there is room for it.
-pub fn keep(words: &mut [u32], k: usize, c: Column)
-    requires { ⌜ length (now words) ≡ roomWords ⌝ }
-    ensures { λ _. ⌜ now (words .exit) ≡ kept (now (words .entry)) k c ⌝ }
+pub fn keep(records: &mut [u32], index: usize, column: Column)
+    requires { ⌜ length (now records) ≡ roomWords ⌝ }
+    ensures { λ _. ⌜ now (records .exit) ≡ kept (now (records .entry)) index column ⌝ }
 {
-    if (bindings::COLUMNS_MOST as usize) <= k {
+    if (bindings::COLUMNS_MOST as usize) <= index {
         return;
     }
-    let at = bindings::COLUMN_WORDS * k;
-    words[at] = c.property;
-    words[at + 1] = c.vtype;
-    words[at + 2] = c.value.used;
-    words[at + 3] = c.value.offset;
-    words[at + 4] = c.value.size;
-    words[at + 5] = c.status.used;
-    words[at + 6] = c.status.offset;
-    words[at + 7] = c.length.used;
-    words[at + 8] = c.length.offset;
+    let at = bindings::COLUMN_WORDS * index;
+    records[at] = column.property;
+    records[at + 1] = column.vtype;
+    records[at + 2] = column.value.used;
+    records[at + 3] = column.value.offset;
+    records[at + 4] = column.value.size;
+    records[at + 5] = column.status.used;
+    records[at + 6] = column.status.offset;
+    records[at + 7] = column.length.used;
+    records[at + 8] = column.length.offset;
 }
 
 // The k-th column of the bindings.
-pub fn column_at(words: &[u32], k: usize) -> Column
-    requires { ⌜ (length (now words) ≡ roomWords) × (k < columnsMost) ⌝ }
-    ensures { λ r. ⌜ r ≡ columnAt (now (words .entry)) k ⌝ }
+pub fn column_at(records: &[u32], index: usize) -> Column
+    requires { ⌜ (length (now records) ≡ roomWords) × (index < columnsMost) ⌝ }
+    ensures { λ r. ⌜ r ≡ columnAt (now (records .entry)) index ⌝ }
 {
-    let at = bindings::COLUMN_WORDS * k;
+    let at = bindings::COLUMN_WORDS * index;
     let value = Value {
-        used: words[at + 2],
-        offset: words[at + 3],
-        size: words[at + 4],
+        used: records[at + 2],
+        offset: records[at + 3],
+        size: records[at + 4],
     };
     let status = Spot {
-        used: words[at + 5],
-        offset: words[at + 6],
+        used: records[at + 5],
+        offset: records[at + 6],
     };
     let length = Spot {
-        used: words[at + 7],
-        offset: words[at + 8],
+        used: records[at + 7],
+        offset: records[at + 8],
     };
     Column {
-        property: words[at],
-        vtype: words[at + 1],
+        property: records[at],
+        vtype: records[at + 1],
         value,
         status,
         length,

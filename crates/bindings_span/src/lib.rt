@@ -19,26 +19,26 @@ fn span_or(used: u32, place: u32, size: u32) -> Span
 }
 
 // The i-th span of the columns, three to a column; an empty one where it is not used.
-pub fn span_at(words: &[u32], i: usize) -> Span
-    requires { ⌜ (length (now words) ≡ roomWords) × (i < spansMost) ⌝ }
-    ensures { λ r. ⌜ r ≡ spanAt (now (words .entry)) i ⌝ }
+pub fn span_at(records: &[u32], index: usize) -> Span
+    requires { ⌜ (length (now records) ≡ roomWords) × (index < spansMost) ⌝ }
+    ensures { λ r. ⌜ r ≡ spanAt (now (records .entry)) index ⌝ }
 {
-    let at = bindings::COLUMN_WORDS * (i / 3);
-    let part = i % 3;
+    let at = bindings::COLUMN_WORDS * (index / 3);
+    let part = index % 3;
     if part == 0 {
-        return span_or(words[at + 2], words[at + 3], words[at + 4]);
+        return span_or(records[at + 2], records[at + 3], records[at + 4]);
     }
     if part == 1 {
-        return span_or(words[at + 5], words[at + 6], wire::STATUS_SIZE);
+        return span_or(records[at + 5], records[at + 6], wire::STATUS_SIZE);
     }
-    span_or(words[at + 7], words[at + 8], wire::LENGTH_SIZE)
+    span_or(records[at + 7], records[at + 8], wire::LENGTH_SIZE)
 }
 
 // The place after a span, which need not fit 32 bits.
-pub fn end(a: Span) -> u64
-    ensures { λ r. ⌜ r ≡ a .place + a .size ⌝ }
+pub fn end(span: Span) -> u64
+    ensures { λ r. ⌜ r ≡ span .place + span .size ⌝ }
 {
-    (a.place as u64) + (a.size as u64)
+    (span.place as u64) + (span.size as u64)
 }
 
 // Whether two spans share no byte.
@@ -52,14 +52,14 @@ pub fn apart(a: Span, b: Span) -> bool
 }
 
 // Whether each span lies in the row.
-pub fn all_inside(words: &[u32], total: usize, width: u32) -> bool
-    requires { ⌜ (length (now words) ≡ roomWords) × (total ≤ spansMost) ⌝ }
-    ensures { λ r. ⌜ r ≡ every (inside width) (spansFrom total 0 (now (words .entry))) ⌝ }
+pub fn all_inside(records: &[u32], total: usize, width: u32) -> bool
+    requires { ⌜ (length (now records) ≡ roomWords) × (total ≤ spansMost) ⌝ }
+    ensures { λ r. ⌜ r ≡ every (inside width) (spansFrom total 0 (now (records .entry))) ⌝ }
 {
     let mut i = 0;
     let mut left = total;
     while 0 < left {
-        let a = span_at(words, i);
+        let a = span_at(records, i);
         if (width as u64) < end(a) {
             return false;
         }
@@ -70,14 +70,14 @@ pub fn all_inside(words: &[u32], total: usize, width: u32) -> bool
 }
 
 // Whether a span meets none of those from an index on.
-fn clear_of(words: &[u32], from: usize, total: usize, a: Span) -> bool
-    requires { ⌜ (length (now words) ≡ roomWords) × (from + total ≤ spansMost) ⌝ }
-    ensures { λ r. ⌜ r ≡ every (apart a) (spansFrom total from (now (words .entry))) ⌝ }
+fn clear_of(records: &[u32], from: usize, total: usize, span: Span) -> bool
+    requires { ⌜ (length (now records) ≡ roomWords) × (from + total ≤ spansMost) ⌝ }
+    ensures { λ r. ⌜ r ≡ every (apart span) (spansFrom total from (now (records .entry))) ⌝ }
 {
     let mut i = from;
     let mut left = total;
     while 0 < left {
-        if !apart(a, span_at(words, i)) {
+        if !apart(span, span_at(records, i)) {
             return false;
         }
         i += 1;
@@ -87,17 +87,17 @@ fn clear_of(words: &[u32], from: usize, total: usize, a: Span) -> bool
 }
 
 // Whether no two spans meet.
-pub fn none_meet(words: &[u32], total: usize) -> bool
-    requires { ⌜ (length (now words) ≡ roomWords) × (total ≤ spansMost) ⌝ }
-    ensures { λ r. ⌜ r ≡ pairwise apart (spansFrom total 0 (now (words .entry))) ⌝ }
+pub fn none_meet(records: &[u32], total: usize) -> bool
+    requires { ⌜ (length (now records) ≡ roomWords) × (total ≤ spansMost) ⌝ }
+    ensures { λ r. ⌜ r ≡ pairwise apart (spansFrom total 0 (now (records .entry))) ⌝ }
 {
     let mut i = 0;
     let mut left = total;
     while 0 < left {
-        let a = span_at(words, i);
+        let a = span_at(records, i);
         i += 1;
         left -= 1;
-        if !clear_of(words, i, left, a) {
+        if !clear_of(records, i, left, a) {
             return false;
         }
     }

@@ -8,7 +8,7 @@ use borrow.Author.Tests.{ne-eqb, lt-ltb, le-ltb, le-leb, lt-leb}
 use lib.ListN.{length}
 use Rattle.wire.specs.Checksum.{messageSized}
 use Rattle.table.specs.Layout.{seatSize, seatAt, put}
-use Rattle.fetch.specs.Ready.{rowsOf}
+use Rattle.catalogue.specs.Plain.{rowsOf}
 use Rattle.refusal.specs.Refusal.{firstCause}
 use Rattle.message.specs.Message.{seatMessage}
 use Rattle.message.specs.Answers.{Answers}

@@ -11,7 +11,7 @@ use lib.Dec.{ltb, eqb}
 use lib.ListN.{length, getD, length-map}
 use Rattle.lists.proofs.Below.{by-test, true≢false, both-left, both-right, both-true, every-at, every-shown}
 use Rattle.lists.proofs.Options.{none≢some, some-is}
-use Rattle.catalogue.specs.Plain.{Row, catalogue}
+use Rattle.catalogue.specs.Plain.{Row, catalogue, rowsOf}
 use Rattle.catalogue.specs.Places.{checked, places, rowSeen}
 use Rattle.catalogue.proofs.Agree.{accepted, catalogue-agrees, rows-counted}
 use Rattle.lists.specs.Every.{every}
@@ -30,7 +30,6 @@ use Rattle.table.proofs.Bounds.{every-shown as each-shown}
 use Rattle.table.proofs.Seats.{seat-block}
 use Rattle.table.proofs.Tables.{same-or-not, seat-same, seat-other, still-well}
 use Rattle.refusal.specs.Refusal.{firstCause}
-use Rattle.fetch.specs.Ready.{rowsOf}
 use Rattle.message.specs.Message.{seatMessage}
 use Rattle.message.proofs.Bodies.{with-fits}
 use Rattle.refusal.proofs.First.{first-both}

@@ -10,7 +10,7 @@ use native.Mathlib.Omega.{arith}
 use lib.ListN.{length, getD, take, drop, length-map}
 use lib.Seq.{length-sets}
 use Rattle.lists.proofs.Below.{true≢false}
-use Rattle.catalogue.specs.Plain.{Row, catalogue}
+use Rattle.catalogue.specs.Plain.{Row, catalogue, rowsOf}
 use Rattle.catalogue.specs.Places.{places, rowSeen}
 use Rattle.catalogue.proofs.Agree.{catalogue-agrees}
 use Rattle.page.specs.Reads.{rowIn}
@@ -19,7 +19,7 @@ use Rattle.tree.proofs.SelectLaws as Laws
 use Rattle.table.specs.Layout.{seats, seatSize}
 use Rattle.table.specs.Well.{seatBelow}
 use Rattle.table.proofs.Judging.{part-is}
-use Rattle.fetch.specs.Ready.{rowsOf, Placed}
+use Rattle.fetch.specs.Ready.{Placed}
 use Rattle.message.specs.Answers.{Sourced}
 use Rattle.call.specs.Step.{rowsHold, seatHeld}
 use Rattle.call.specs.Judgement.{Judgement}

@@ -11,13 +11,12 @@ use lib.ListN.{length, take, drop, take-append-drop}
 use Rattle.wire.specs.Word.{le}
 use Rattle.lists.proofs.Below.{by-test}
 use Rattle.table.specs.Layout.{seats, seatSize, seatAt}
-use Rattle.catalogue.specs.Plain.{Row}
+use Rattle.catalogue.specs.Plain.{Row, rowsOf}
 use Rattle.table.specs.Seat.{Cursor, Seat, cursorIn}
 use Rattle.table.specs.Well.{tableWell}
 use Rattle.refusal.specs.Refusal.{firstCause}
 use Rattle.fetch.specs.Request.{request}
 use Rattle.fetch.specs.declared.Request.{Request}
-use Rattle.fetch.specs.Ready.{rowsOf}
 use Rattle.message.specs.Message.{kindOf, msgOf, handleOf, seatCauses, rowsDone, doneOn, doneBy, seatMessage}
 use Rattle.refusal.proofs.First.{first-both}
 use Rattle.query.specs.Open.{openCauses}

@@ -8,12 +8,11 @@ use lib.Dec.{ltb, eqb}
 use lib.ListN.{length, drop}
 use Rattle.lists.specs.Below.{pick}
 use Rattle.wire.specs.Checksum.{messageSized}
-use Rattle.catalogue.specs.Plain.{Row, catalogue}
+use Rattle.catalogue.specs.Plain.{Row, catalogue, rowsOf}
 use Rattle.table.specs.Layout.{seatSize, seatAt, put, blockOf}
 use Rattle.table.specs.Seat.{Seat, seatBlock, seatOf, fresh}
 use Rattle.table.specs.Well.{tableWell, tableBelow}
 use Rattle.refusal.specs.Refusal.{firstCause}
-use Rattle.fetch.specs.Ready.{rowsOf}
 use Rattle.message.specs.Message.{SeatOutcome, seatMessage}
 use Rattle.query.specs.Open.{freeHandle, openCauses, openedOn}
 

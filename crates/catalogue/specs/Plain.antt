@@ -65,3 +65,11 @@ catalogue s = pick (leb (length s) bytesMost) (andThen (number rowsMost s) λ n 
 abbrev pub refusalOf : Option (List Row) → ℕ
 refusalOf none = 3
 refusalOf (some rs) = 0
+
+-- the rows of a catalogue, if it has any to give: none of a malformed one, which refusal 3 names
+abbrev pub rowsOf : Option (List Row) → List Row
+rowsOf none = []
+rowsOf (some rows) = rows
+
+abbrev pub rowsIn : List ℕ → List Row
+rowsIn s = rowsOf (catalogue s)

@@ -22,38 +22,41 @@ fn none_zero(units: &[u8]) -> bool
 }
 
 // The place after the text at a place, or 0: for the check, which keeps no text.
-fn text_end(s: &[u8], at: usize) -> usize
-    ensures { λ r. ⌜ r ≡ textEnd (textAt (now (s .entry)) at) ⌝ }
+fn text_end(catalogue: &[u8], at: usize) -> usize
+    ensures { λ r. ⌜ r ≡ textEnd (textAt (now (catalogue .entry)) at) ⌝ }
 {
-    let Reading::Number(size, start) = catalogue_number::read(s, at, catalogue::SIZE_MOST) else {
+    let Reading::Number(size, start) = catalogue_number::read(catalogue, at, catalogue::SIZE_MOST)
+    else {
         return 0;
     };
     let end = catalogue_row::units_end(size as usize, start);
-    if s.len() < end {
+    if catalogue.len() < end {
         return 0;
     }
-    if none_zero(&s[start..end]) {
+    if none_zero(&catalogue[start..end]) {
         return end;
     }
     0
 }
 
 // The place after the row at a place, or 0: for the check, which keeps no row.
-pub fn row_end(s: &[u8], at: usize) -> usize
-    ensures { λ r. ⌜ r ≡ rowEnd (rowAt (now (s .entry)) at) ⌝ }
+pub fn row_end(catalogue: &[u8], at: usize) -> usize
+    ensures { λ r. ⌜ r ≡ rowEnd (rowAt (now (catalogue .entry)) at) ⌝ }
 {
-    let Reading::Number(_, at1) = catalogue_number::read(s, at, catalogue::KEY_MOST) else {
+    let Reading::Number(_, at1) = catalogue_number::read(catalogue, at, catalogue::KEY_MOST) else {
         return 0;
     };
-    let Reading::Number(_, at2) = catalogue_number::read(s, at1, catalogue::NUMBER_MOST) else {
+    let Reading::Number(_, at2) = catalogue_number::read(catalogue, at1, catalogue::NUMBER_MOST)
+    else {
         return 0;
     };
-    let Reading::Number(_, at3) = catalogue_number::read(s, at2, catalogue::NUMBER_MOST) else {
+    let Reading::Number(_, at3) = catalogue_number::read(catalogue, at2, catalogue::NUMBER_MOST)
+    else {
         return 0;
     };
-    let at4 = text_end(s, at3);
+    let at4 = text_end(catalogue, at3);
     if at4 == 0 {
         return 0;
     }
-    text_end(s, at4)
+    text_end(catalogue, at4)
 }

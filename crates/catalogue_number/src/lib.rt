@@ -9,9 +9,9 @@ use catalogue::Reading;
 // The number that begins at a place, if it is well formed and at most the limit, where the group there has its top bit set
 // and holds `low` beside it. What the groups to come may hold at most is `room`, so neither the value nor the weight can pass
 // the limit.
-pub fn read_further(s: &[u8], at: usize, low: u64, limit: u64) -> Reading
-    requires { ⌜ at < length (now s) ⌝ }
-    ensures { λ r. ⌜ r ≡ placed at (within limit (further low (groups (drop (at + 1) (now (s .entry)))))) ⌝ }
+pub fn read_further(catalogue: &[u8], at: usize, low: u64, limit: u64) -> Reading
+    requires { ⌜ at < length (now catalogue) ⌝ }
+    ensures { λ r. ⌜ r ≡ placed at (within limit (further low (groups (drop (at + 1) (now (catalogue .entry)))))) ⌝ }
 {
     if limit < low {
         return Reading::Malformed;
@@ -23,8 +23,8 @@ pub fn read_further(s: &[u8], at: usize, low: u64, limit: u64) -> Reading
         return Reading::Malformed;
     }
     let mut i = at + 1;
-    while i < s.len() {
-        let group = s[i] as u64;
+    while i < catalogue.len() {
+        let group = catalogue[i] as u64;
         if group < 128 {
             if group == 0 {
                 return Reading::Malformed;
@@ -51,18 +51,18 @@ pub fn read_further(s: &[u8], at: usize, low: u64, limit: u64) -> Reading
 }
 
 // The number that begins at a place, if it is well formed and at most the limit.
-pub fn read(s: &[u8], at: usize, limit: u64) -> Reading
-    ensures { λ r. ⌜ r ≡ readingAt limit (now (s .entry)) at ⌝ }
+pub fn read(catalogue: &[u8], at: usize, limit: u64) -> Reading
+    ensures { λ r. ⌜ r ≡ readingAt limit (now (catalogue .entry)) at ⌝ }
 {
-    if s.len() <= at {
+    if catalogue.len() <= at {
         return Reading::Malformed;
     }
-    let first = s[at] as u64;
+    let first = catalogue[at] as u64;
     if first < 128 {
         if limit < first {
             return Reading::Malformed;
         }
         return Reading::Number(first, at + 1);
     }
-    read_further(s, at, first - 128, limit)
+    read_further(catalogue, at, first - 128, limit)
 }

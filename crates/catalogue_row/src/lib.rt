@@ -23,22 +23,23 @@ pub fn units_end(size: usize, start: usize) -> usize
 }
 
 // The bytes of a text's units, as a part of the caller's own.
-pub fn units(s: &[u8], text: Text) -> &[u8]
-    requires { ⌜ (text .size ≤ sizeMost) × (text .start + unitBytesOf (text .size) ≤ length (now s)) ⌝ }
-    ensures { λ r. ⌜ now r ≡ unitsPart (now (s .entry)) text ⌝ }
+pub fn units(catalogue: &[u8], text: Text) -> &[u8]
+    requires { ⌜ (text .size ≤ sizeMost) × (text .start + unitBytesOf (text .size) ≤ length (now catalogue)) ⌝ }
+    ensures { λ r. ⌜ now r ≡ unitsPart (now (catalogue .entry)) text ⌝ }
 {
     let start = text.start;
     let size = text.size;
     let end = units_end(size, start);
-    &s[start..end]
+    &catalogue[start..end]
 }
 
 // The text that is known to stand at a place: its units are not looked at again.
-fn text_again(s: &[u8], at: usize) -> TextAt
-    requires { ⌜ TextThere (now s) at ⌝ }
-    ensures { λ r. ⌜ r ≡ textAt (now (s .entry)) at ⌝ }
+fn text_again(catalogue: &[u8], at: usize) -> TextAt
+    requires { ⌜ TextThere (now catalogue) at ⌝ }
+    ensures { λ r. ⌜ r ≡ textAt (now (catalogue .entry)) at ⌝ }
 {
-    let Reading::Number(told, start) = catalogue_number::read(s, at, catalogue::SIZE_MOST) else {
+    let Reading::Number(told, start) = catalogue_number::read(catalogue, at, catalogue::SIZE_MOST)
+    else {
         return TextAt::NoText;
     };
     let size = told as usize;
@@ -47,25 +48,32 @@ fn text_again(s: &[u8], at: usize) -> TextAt
 }
 
 // The row that is known to stand at a place, as one that the check noted.
-pub fn row_again(s: &[u8], at: usize) -> RowAt
-    requires { ⌜ RowThere (now s) at ⌝ }
-    ensures { λ r. ⌜ r ≡ rowAt (now (s .entry)) at ⌝ }
+pub fn row_again(catalogue: &[u8], at: usize) -> RowAt
+    requires { ⌜ RowThere (now catalogue) at ⌝ }
+    ensures { λ r. ⌜ r ≡ rowAt (now (catalogue .entry)) at ⌝ }
 {
-    let Reading::Number(key, at1) = catalogue_number::read(s, at, catalogue::KEY_MOST) else {
-        return RowAt::NoRow;
-    };
-    let Reading::Number(language, at2) = catalogue_number::read(s, at1, catalogue::NUMBER_MOST)
+    let Reading::Number(key, at1) = catalogue_number::read(catalogue, at, catalogue::KEY_MOST)
     else {
         return RowAt::NoRow;
     };
-    let Reading::Number(default, at3) = catalogue_number::read(s, at2, catalogue::NUMBER_MOST)
-    else {
+    let Reading::Number(language, at2) = catalogue_number::read(
+        catalogue,
+        at1,
+        catalogue::NUMBER_MOST,
+    ) else {
         return RowAt::NoRow;
     };
-    let TextAt::TextTo(label, at4) = text_again(s, at3) else {
+    let Reading::Number(default, at3) = catalogue_number::read(
+        catalogue,
+        at2,
+        catalogue::NUMBER_MOST,
+    ) else {
         return RowAt::NoRow;
     };
-    let TextAt::TextTo(note, at5) = text_again(s, at4) else {
+    let TextAt::TextTo(label, at4) = text_again(catalogue, at3) else {
+        return RowAt::NoRow;
+    };
+    let TextAt::TextTo(note, at5) = text_again(catalogue, at4) else {
         return RowAt::NoRow;
     };
     RowAt::RowTo(
@@ -81,11 +89,11 @@ pub fn row_again(s: &[u8], at: usize) -> RowAt
 }
 
 // The fields of the row at a place that the check noted.
-pub fn fields_at(s: &[u8], at: usize) -> Fields
-    requires { ⌜ RowThere (now s) at ⌝ }
-    ensures { λ r. ⌜ r ≡ fieldsSeen (now (s .entry)) at ⌝ }
+pub fn fields_at(catalogue: &[u8], at: usize) -> Fields
+    requires { ⌜ RowThere (now catalogue) at ⌝ }
+    ensures { λ r. ⌜ r ≡ fieldsSeen (now (catalogue .entry)) at ⌝ }
 {
-    let RowAt::RowTo(fields, _) = row_again(s, at) else {
+    let RowAt::RowTo(fields, _) = row_again(catalogue, at) else {
         return Fields {
             key: 0,
             language: 0,

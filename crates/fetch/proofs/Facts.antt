@@ -12,7 +12,7 @@ use lib.Dec.{ltb}
 use lib.ListN.{length, getD, take, drop, length-drop}
 use lib.Seq.{take-take, take-all, drop-drop, getD-take, getD-drop}
 use Rattle.lists.proofs.Below.{both-left, both-right, both-true}
-use Rattle.catalogue.specs.Plain.{Row, catalogue}
+use Rattle.catalogue.specs.Plain.{Row, catalogue, rowsOf}
 use Rattle.catalogue.specs.Places.{RowThere, rowSeen}
 use Rattle.lists.specs.Every.{every}
 use Rattle.bindings.specs.Fit.{rowMost, fit}
@@ -27,7 +27,7 @@ use Rattle.page.specs.Rows.{rowsAt}
 use Rattle.page.specs.RowReady.{Words, There}
 use Rattle.page.proofs.FillSteps.{rows-more}
 use Rattle.fetch.specs.Fetch.{numbered, remaining, earlyCauses}
-use Rattle.fetch.specs.Ready.{rowsOf, Placed, FetchReady}
+use Rattle.fetch.specs.Ready.{Placed, FetchReady}
 
 -- a part of a list's first members is a part of the list
 pub part-of-first : (p n count : ℕ) (t : List ℕ) → p + n ≤ count → take n (drop p (take count t)) ≡ take n (drop p t)

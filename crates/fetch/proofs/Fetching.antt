@@ -9,7 +9,7 @@ use borrow.Author.Tests.{eqb-true, eqb-false}
 use lib.Dec.{eqb}
 use lib.ListN.{length, getD, set, drop}
 use Rattle.lists.proofs.Below.{by-test}
-use Rattle.catalogue.specs.Plain.{Row, catalogue}
+use Rattle.catalogue.specs.Plain.{Row, catalogue, rowsOf}
 use Rattle.table.specs.Seat.{Cursor, cursorBlock, cursorHeld}
 use Rattle.table.proofs.Writes.{moved-block}
 use Rattle.refusal.specs.Refusal.{firstCause}
@@ -19,7 +19,7 @@ use Rattle.page.specs.Page.{statusFor}
 use Rattle.page.proofs.Greatest.{returned-room}
 use Rattle.page.proofs.Reply.{bytes-length}
 use Rattle.fetch.specs.Fetch.{remaining, firstUnfit, earlyCauses, fetchCauses, sent, rowsSent, thenLeft, fetchReply}
-use Rattle.fetch.specs.Ready.{rowsOf, FetchReady, Fetched}
+use Rattle.fetch.specs.Ready.{FetchReady, Fetched}
 use Rattle.fetch.proofs.Facts.{bindings-fit}
 use Rattle.fetch.proofs.Sending.{inside}
 

@@ -4,7 +4,7 @@ use mathlib.Core.List.{List, _++_}
 use Prim.Native.Nat.{ℕ, _+_, _-_, _≤_}
 use native.Mathlib.Omega.{arith}
 use lib.ListN.{length, getD, take, drop, length-take, length-drop, length-map}
-use Rattle.catalogue.specs.Plain.{Row, catalogue}
+use Rattle.catalogue.specs.Plain.{Row, catalogue, rowsOf}
 use Rattle.catalogue.specs.Places.{rowSeen}
 use Rattle.table.specs.Layout.{recordsAt, recordsSize, part}
 use Rattle.table.specs.Seat.{Cursor, cursorHeld}
@@ -18,7 +18,7 @@ use Rattle.page.specs.PageReady.{PageReady}
 use Rattle.page.proofs.Greatest.{returned-is, returned-room}
 use Rattle.page.proofs.Reply.{page-is}
 use Rattle.fetch.specs.Fetch.{remaining, earlyCauses, sent, rowsSent, thenLeft, fetchReply}
-use Rattle.fetch.specs.Ready.{rowsOf, FetchReady}
+use Rattle.fetch.specs.Ready.{FetchReady}
 use Rattle.fetch.proofs.Facts.{count-is, count-most, position-most, all-rows, bindings-fit, words-ready}
 
 -- the rows that remain, and no more than they are sent

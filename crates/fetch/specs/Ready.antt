@@ -1,11 +1,11 @@
 -- What is known before rows are fetched, and what is left afterwards.
 use mathlib.Core.Path.{_≡_}
 use mathlib.Core.Bool.{true}
-use mathlib.Core.List.{List, [], _++_}
-use mathlib.Core.Option.{Option, none, some}
+use mathlib.Core.List.{List, _++_}
+use mathlib.Core.Option.{some}
 use Prim.Native.Nat.{ℕ, _≤_, _<_}
 use lib.ListN.{length, getD, drop}
-use Rattle.catalogue.specs.Plain.{Row, catalogue}
+use Rattle.catalogue.specs.Plain.{catalogue, rowsOf}
 use Rattle.catalogue.specs.Places.{RowThere, rowSeen}
 use Rattle.table.specs.Seat.{cursorBlock, cursorHeld}
 use Rattle.table.specs.Well.{cursorBelow}
@@ -15,11 +15,6 @@ use Rattle.fetch.specs.Request.{Sound}
 use Rattle.page.specs.Reads.{rowIn}
 use Rattle.refusal.specs.Refusal.{firstCause}
 use Rattle.fetch.specs.Fetch.{fetchCauses, fetchReply, fetched}
-
--- the rows of a catalogue; none of a malformed one, which refusal 3 names
-abbrev pub rowsOf : Option (List Row) → List Row
-rowsOf none = []
-rowsOf (some rows) = rows
 
 -- each row stands at its place
 abbrev pub Placed : List ℕ → List ℕ → Type 0

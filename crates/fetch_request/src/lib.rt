@@ -74,42 +74,42 @@ fn seek_fits(length: usize, seek: u32, told: u32) -> bool
 }
 
 // The values of a message that is long enough.
-fn values(m: &[u8], reserved: u32) -> Request
-    requires { ⌜ (leastSize ≤ length (now m)) × (reserved ≤ 64) ⌝ }
-    ensures { λ r. ⌜ r ≡ asked reserved (now (m .entry)) ⌝ }
+fn values(message: &[u8], reserved: u32) -> Request
+    requires { ⌜ (leastSize ≤ length (now message)) × (reserved ≤ 64) ⌝ }
+    ensures { λ r. ⌜ r ≡ asked reserved (now (message .entry)) ⌝ }
 {
     Request {
-        handle: wire_word::word(m, HANDLE_AT),
-        asked: wire_word::word(m, ASKED_AT),
-        width: wire_word::word(m, WIDTH_AT),
+        handle: wire_word::word(message, HANDLE_AT),
+        asked: wire_word::word(message, ASKED_AT),
+        width: wire_word::word(message, WIDTH_AT),
         from: reserved + 12,
-        size: wire_word::word(m, SIZE_AT),
-        base: wire_word::word(m, BASE_AT),
-        backward: wire_word::word(m, BACKWARD_AT),
-        seek: wire_word::word(m, SEEK_AT),
-        chapter: wire_word::word(m, CHAPTER_AT),
-        skip: wire_word::last_word(m, SKIP_AT),
+        size: wire_word::word(message, SIZE_AT),
+        base: wire_word::word(message, BASE_AT),
+        backward: wire_word::word(message, BACKWARD_AT),
+        seek: wire_word::word(message, SEEK_AT),
+        chapter: wire_word::word(message, CHAPTER_AT),
+        skip: wire_word::last_word(message, SKIP_AT),
     }
 }
 
 // Reads the body of a message.
-pub fn read(m: &[u8]) -> Asking
-    ensures { λ r. ⌜ r ≡ asking (request (now (m .entry))) ⌝ }
+pub fn read(message: &[u8]) -> Asking
+    ensures { λ r. ⌜ r ≡ asking (request (now (message .entry))) ⌝ }
 {
-    if m.len() < LEAST_SIZE {
+    if message.len() < LEAST_SIZE {
         return Asking::Malformed;
     }
-    let reserved = wire_word::word(m, RESERVED_AT);
-    let size = wire_word::word(m, SIZE_AT);
-    let base = wire_word::word(m, BASE_AT);
-    let backward = wire_word::word(m, BACKWARD_AT);
+    let reserved = wire_word::word(message, RESERVED_AT);
+    let size = wire_word::word(message, SIZE_AT);
+    let base = wire_word::word(message, BASE_AT);
+    let backward = wire_word::word(message, BACKWARD_AT);
     if !in_range(reserved, size, base, backward) {
         return Asking::Malformed;
     }
-    let seek = wire_word::word(m, SEEK_AT);
-    let told = wire_word::word(m, SEEK_SIZE_AT);
-    if !seek_fits(m.len(), seek, told) {
+    let seek = wire_word::word(message, SEEK_AT);
+    let told = wire_word::word(message, SEEK_SIZE_AT);
+    if !seek_fits(message.len(), seek, told) {
         return Asking::Malformed;
     }
-    Asking::Asked(values(m, reserved))
+    Asking::Asked(values(message, reserved))
 }

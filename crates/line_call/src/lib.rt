@@ -14,35 +14,35 @@ use line::Reason;
 use line::Spelled;
 
 // The number word from a place on.
-fn number_word(s: &[u8], at: usize) -> Number
-    requires { ⌜ at ≤ length (now s) ⌝ }
-    ensures { λ r. ⌜ (r ≡ numberWord (now (s .entry)) at) × numberEnds (length (now (s .entry))) r ⌝ }
+fn number_word(line: &[u8], at: usize) -> Number
+    requires { ⌜ at ≤ length (now line) ⌝ }
+    ensures { λ r. ⌜ (r ≡ numberWord (now (line .entry)) at) × numberEnds (length (now (line .entry))) r ⌝ }
 {
-    let start = line_word::after_separators(s, at);
-    let end = line_word::after_word(s, start);
+    let start = line_word::after_separators(line, at);
+    let end = line_word::after_word(line, start);
     if start == end {
         return Number::Fault(Reason::MissingWord);
     }
-    match line_word::decimal(&s[start..end]) {
+    match line_word::decimal(&line[start..end]) {
         Spelled::Bad => Number::Fault(Reason::BadNumber),
         Spelled::Is(value) => Number::Is(value, end),
     }
 }
 
 // The hex word from a place on, of at most so many bytes. A `-` is none.
-fn hex_word(s: &[u8], at: usize, most: usize) -> Hex
-    requires { ⌜ at ≤ length (now s) ⌝ }
-    ensures { λ r. ⌜ (r ≡ hexWord most (now (s .entry)) at) × hexEnds most (length (now (s .entry))) r ⌝ }
+fn hex_word(line: &[u8], at: usize, most: usize) -> Hex
+    requires { ⌜ at ≤ length (now line) ⌝ }
+    ensures { λ r. ⌜ (r ≡ hexWord most (now (line .entry)) at) × hexEnds most (length (now (line .entry))) r ⌝ }
 {
-    let start = line_word::after_separators(s, at);
-    let end = line_word::after_word(s, start);
+    let start = line_word::after_separators(line, at);
+    let end = line_word::after_word(line, start);
     if start == end {
         return Hex::Fault(Reason::MissingWord);
     }
-    if line_word::is_dash(&s[start..end]) {
+    if line_word::is_dash(&line[start..end]) {
         return Hex::Is(end, end, end);
     }
-    if !line_word::is_hex(&s[start..end]) {
+    if !line_word::is_hex(&line[start..end]) {
         return Hex::Fault(Reason::BadHex);
     }
     if most < (end - start) / 2 {
@@ -52,123 +52,127 @@ fn hex_word(s: &[u8], at: usize, most: usize) -> Hex
 }
 
 // A call after whose last word, which ends at a place, no further word stands.
-fn whole(s: &[u8], at: usize, call: Call) -> Call
-    requires { ⌜ (at ≤ length (now s)) × Fits (length (now s)) call ⌝ }
-    ensures { λ r. ⌜ (r ≡ whole (now (s .entry)) at call) × Fits (length (now (s .entry))) r ⌝ }
+fn whole(line: &[u8], at: usize, call: Call) -> Call
+    requires { ⌜ (at ≤ length (now line)) × Fits (length (now line)) call ⌝ }
+    ensures { λ r. ⌜ (r ≡ whole (now (line .entry)) at call) × Fits (length (now (line .entry))) r ⌝ }
 {
-    if line_word::after_separators(s, at) < s.len() {
+    if line_word::after_separators(line, at) < line.len() {
         return Call::Fault(Reason::ExtraWord);
     }
     call
 }
 
-fn catalogue(s: &[u8], at: usize) -> Call
-    requires { ⌜ at ≤ length (now s) ⌝ }
-    ensures { λ r. ⌜ (r ≡ catalogueFrom (now (s .entry)) at) × Fits (length (now (s .entry))) r ⌝ }
+fn catalogue(line: &[u8], at: usize) -> Call
+    requires { ⌜ at ≤ length (now line) ⌝ }
+    ensures { λ r. ⌜ (r ≡ catalogueFrom (now (line .entry)) at) × Fits (length (now (line .entry))) r ⌝ }
 {
-    match hex_word(s, at, CATALOGUE_MOST) {
+    match hex_word(line, at, CATALOGUE_MOST) {
         Hex::Fault(reason) => Call::Fault(reason),
-        Hex::Is(first, last, end) => whole(s, end, Call::Catalogue(first, last)),
+        Hex::Is(first, last, end) => whole(line, end, Call::Catalogue(first, last)),
     }
 }
 
-fn connect(s: &[u8], at: usize) -> Call
-    requires { ⌜ at ≤ length (now s) ⌝ }
-    ensures { λ r. ⌜ (r ≡ connectFrom (now (s .entry)) at) × Fits (length (now (s .entry))) r ⌝ }
+fn connect(line: &[u8], at: usize) -> Call
+    requires { ⌜ at ≤ length (now line) ⌝ }
+    ensures { λ r. ⌜ (r ≡ connectFrom (now (line .entry)) at) × Fits (length (now (line .entry))) r ⌝ }
 {
-    match number_word(s, at) {
+    match number_word(line, at) {
         Number::Fault(reason) => Call::Fault(reason),
-        Number::Is(seat, next) => match number_word(s, next) {
+        Number::Is(seat, next) => match number_word(line, next) {
             Number::Fault(reason) => Call::Fault(reason),
-            Number::Is(version, end) => whole(s, end, Call::Connect(seat, version)),
+            Number::Is(version, end) => whole(line, end, Call::Connect(seat, version)),
         },
     }
 }
 
-fn open(s: &[u8], at: usize) -> Call
-    requires { ⌜ at ≤ length (now s) ⌝ }
-    ensures { λ r. ⌜ (r ≡ openFrom (now (s .entry)) at) × Fits (length (now (s .entry))) r ⌝ }
+fn open(line: &[u8], at: usize) -> Call
+    requires { ⌜ at ≤ length (now line) ⌝ }
+    ensures { λ r. ⌜ (r ≡ openFrom (now (line .entry)) at) × Fits (length (now (line .entry))) r ⌝ }
 {
-    match number_word(s, at) {
+    match number_word(line, at) {
         Number::Fault(reason) => Call::Fault(reason),
-        Number::Is(seat, next) => match hex_word(s, next, BYTES_MOST) {
+        Number::Is(seat, next) => match hex_word(line, next, BYTES_MOST) {
             Hex::Fault(reason) => Call::Fault(reason),
-            Hex::Is(first, last, end) => whole(s, end, Call::Open(seat, first, last)),
+            Hex::Is(first, last, end) => whole(line, end, Call::Open(seat, first, last)),
         },
     }
 }
 
-fn message(s: &[u8], at: usize) -> Call
-    requires { ⌜ at ≤ length (now s) ⌝ }
-    ensures { λ r. ⌜ (r ≡ messageFrom (now (s .entry)) at) × Fits (length (now (s .entry))) r ⌝ }
+fn message(line: &[u8], at: usize) -> Call
+    requires { ⌜ at ≤ length (now line) ⌝ }
+    ensures { λ r. ⌜ (r ≡ messageFrom (now (line .entry)) at) × Fits (length (now (line .entry))) r ⌝ }
 {
-    match number_word(s, at) {
+    match number_word(line, at) {
         Number::Fault(reason) => Call::Fault(reason),
-        Number::Is(seat, next) => message_from(s, next, seat),
+        Number::Is(seat, next) => message_from(line, next, seat),
     }
 }
 
 // The room and the bytes of a message.
-fn message_from(s: &[u8], at: usize, seat: u32) -> Call
-    requires { ⌜ at ≤ length (now s) ⌝ }
-    ensures { λ r. ⌜ (r ≡ roomFrom seat (now (s .entry)) at) × Fits (length (now (s .entry))) r ⌝ }
+fn message_from(line: &[u8], at: usize, seat: u32) -> Call
+    requires { ⌜ at ≤ length (now line) ⌝ }
+    ensures { λ r. ⌜ (r ≡ roomFrom seat (now (line .entry)) at) × Fits (length (now (line .entry))) r ⌝ }
 {
-    match number_word(s, at) {
+    match number_word(line, at) {
         Number::Fault(reason) => Call::Fault(reason),
         Number::Is(room, next) => {
             if ROOM_MOST < room {
                 return Call::Fault(Reason::TooLong);
             }
-            match hex_word(s, next, BYTES_MOST) {
+            match hex_word(line, next, BYTES_MOST) {
                 Hex::Fault(reason) => Call::Fault(reason),
-                Hex::Is(first, last, end) => whole(s, end, Call::Message(seat, room, first, last)),
+                Hex::Is(first, last, end) => whole(
+                    line,
+                    end,
+                    Call::Message(seat, room, first, last),
+                ),
             }
         }
     }
 }
 
-fn word(s: &[u8], at: usize) -> Call
-    requires { ⌜ at ≤ length (now s) ⌝ }
-    ensures { λ r. ⌜ (r ≡ wordFrom (now (s .entry)) at) × Fits (length (now (s .entry))) r ⌝ }
+fn word(line: &[u8], at: usize) -> Call
+    requires { ⌜ at ≤ length (now line) ⌝ }
+    ensures { λ r. ⌜ (r ≡ wordFrom (now (line .entry)) at) × Fits (length (now (line .entry))) r ⌝ }
 {
-    match number_word(s, at) {
+    match number_word(line, at) {
         Number::Fault(reason) => Call::Fault(reason),
         Number::Is(index, next) => {
             if INDEX_MOST < index {
                 return Call::Fault(Reason::NoSuchWord);
             }
-            match number_word(s, next) {
+            match number_word(line, next) {
                 Number::Fault(reason) => Call::Fault(reason),
-                Number::Is(value, end) => whole(s, end, Call::Word(index, value)),
+                Number::Is(value, end) => whole(line, end, Call::Word(index, value)),
             }
         }
     }
 }
 
 // The call that a line is, its comment cut off.
-pub fn read(s: &[u8]) -> Call
-    ensures { λ r. ⌜ (r ≡ callOf (now (s .entry))) × Fits (length (now (s .entry))) r ⌝ }
+pub fn read(line: &[u8]) -> Call
+    ensures { λ r. ⌜ (r ≡ callOf (now (line .entry))) × Fits (length (now (line .entry))) r ⌝ }
 {
-    let start = line_word::after_separators(s, 0);
-    let end = line_word::after_word(s, start);
+    let start = line_word::after_separators(line, 0);
+    let end = line_word::after_word(line, start);
     if start == end {
         return Call::Nothing;
     }
-    let name = &s[start..end];
+    let name = &line[start..end];
     if line_word::same(name, b"catalogue") {
-        return catalogue(s, end);
+        return catalogue(line, end);
     }
     if line_word::same(name, b"connect") {
-        return connect(s, end);
+        return connect(line, end);
     }
     if line_word::same(name, b"open") {
-        return open(s, end);
+        return open(line, end);
     }
     if line_word::same(name, b"message") {
-        return message(s, end);
+        return message(line, end);
     }
     if line_word::same(name, b"word") {
-        return word(s, end);
+        return word(line, end);
     }
     Call::Fault(Reason::UnknownCall)
 }

@@ -10,13 +10,13 @@ use line::Spelled;
 const MOST: u64 = 4294967295;
 
 // The number that decimal digits spell, if it is at most 4,294,967,295.
-pub fn decimal(s: &[u8]) -> Spelled
-    ensures { λ r. ⌜ r ≡ told (decimal (now (s .entry))) ⌝ }
+pub fn decimal(digits: &[u8]) -> Spelled
+    ensures { λ r. ⌜ r ≡ told (decimal (now (digits .entry))) ⌝ }
 {
     let mut value: u64 = 0;
     let mut i = 0;
-    while i < s.len() {
-        let b = s[i];
+    while i < digits.len() {
+        let b = digits[i];
         if b < 48 {
             return Spelled::Bad;
         }
@@ -33,55 +33,55 @@ pub fn decimal(s: &[u8]) -> Spelled
 }
 
 // The value of a hex digit of either case, or 16 where it is none.
-fn hex_digit(b: u8) -> u8
-    ensures { λ r. ⌜ r ≡ hexDigit b ⌝ }
+fn hex_digit(digit: u8) -> u8
+    ensures { λ r. ⌜ r ≡ hexDigit digit ⌝ }
 {
-    if b < 48 {
+    if digit < 48 {
         return 16;
     }
-    if b <= 57 {
-        return b - 48;
+    if digit <= 57 {
+        return digit - 48;
     }
-    if b < 65 {
+    if digit < 65 {
         return 16;
     }
-    if b <= 70 {
-        return b - 55;
+    if digit <= 70 {
+        return digit - 55;
     }
-    if b < 97 {
+    if digit < 97 {
         return 16;
     }
-    if b <= 102 {
-        return b - 87;
+    if digit <= 102 {
+        return digit - 87;
     }
     16
 }
 
 // The word that stands for no bytes.
-pub fn is_dash(s: &[u8]) -> bool
-    ensures { λ r. ⌜ r ≡ isDash (now (s .entry)) ⌝ }
+pub fn is_dash(word: &[u8]) -> bool
+    ensures { λ r. ⌜ r ≡ isDash (now (word .entry)) ⌝ }
 {
-    if s.len() != 1 {
+    if word.len() != 1 {
         return false;
     }
-    s[0] == 45
+    word[0] == 45
 }
 
 // All of it is pairs of hex digits.
-pub fn is_hex(s: &[u8]) -> bool
-    ensures { λ r. ⌜ r ≡ isHex (now (s .entry)) ⌝ }
+pub fn is_hex(digits: &[u8]) -> bool
+    ensures { λ r. ⌜ r ≡ isHex (now (digits .entry)) ⌝ }
 {
     let mut i = 0;
-    while i + 1 < s.len() {
-        if hex_digit(s[i]) == 16 {
+    while i + 1 < digits.len() {
+        if hex_digit(digits[i]) == 16 {
             return false;
         }
-        if hex_digit(s[i + 1]) == 16 {
+        if hex_digit(digits[i + 1]) == 16 {
             return false;
         }
         i += 2;
     }
-    i == s.len()
+    i == digits.len()
 }
 
 // The byte that a pair of hex digits spells.
@@ -94,13 +94,13 @@ fn pair(high: u8, low: u8) -> u8
 }
 
 // The bytes that pairs of hex digits spell.
-pub fn hex_bytes(s: &[u8], out: &mut [u8])
-    requires { ⌜ length (now s) / 2 ≤ length (now out) ⌝ }
-    ensures { λ _. ⌜ now (out .exit) ≡ hexBytes (now (s .entry)) ++ drop (length (now (s .entry)) / 2) (now (out .entry)) ⌝ }
+pub fn hex_bytes(digits: &[u8], out: &mut [u8])
+    requires { ⌜ length (now digits) / 2 ≤ length (now out) ⌝ }
+    ensures { λ _. ⌜ now (out .exit) ≡ hexBytes (now (digits .entry)) ++ drop (length (now (digits .entry)) / 2) (now (out .entry)) ⌝ }
 {
     let mut i = 0;
-    while i < s.len() / 2 {
-        out[i] = pair(s[2 * i], s[2 * i + 1]);
+    while i < digits.len() / 2 {
+        out[i] = pair(digits[2 * i], digits[2 * i + 1]);
         i += 1;
     }
 }
@@ -110,26 +110,26 @@ const FEED: u8 = 10;
 const HASH: u8 = 35;
 
 // Spaces, tabs and carriage returns stand between words.
-fn separates(b: u8) -> bool
-    ensures { λ r. ⌜ r ≡ separates b ⌝ }
+fn separates(byte: u8) -> bool
+    ensures { λ r. ⌜ r ≡ separates byte ⌝ }
 {
-    if b == 32 {
+    if byte == 32 {
         return true;
     }
-    if b == 9 {
+    if byte == 9 {
         return true;
     }
-    b == 13
+    byte == 13
 }
 
 // The place of the first line feed from a place on, or the end.
-pub fn before_feed(s: &[u8], at: usize) -> usize
-    requires { ⌜ at ≤ length (now s) ⌝ }
-    ensures { λ r. ⌜ (r ≡ at + run inLine (drop at (now (s .entry)))) × (at ≤ r) × (r ≤ length (now (s .entry))) ⌝ }
+pub fn before_feed(chunk: &[u8], at: usize) -> usize
+    requires { ⌜ at ≤ length (now chunk) ⌝ }
+    ensures { λ r. ⌜ (r ≡ at + run inLine (drop at (now (chunk .entry)))) × (at ≤ r) × (r ≤ length (now (chunk .entry))) ⌝ }
 {
     let mut i = at;
-    while i < s.len() {
-        if s[i] == FEED {
+    while i < chunk.len() {
+        if chunk[i] == FEED {
             return i;
         }
         i += 1;
@@ -138,12 +138,12 @@ pub fn before_feed(s: &[u8], at: usize) -> usize
 }
 
 // How many bytes stand before the comment.
-pub fn before_comment(s: &[u8]) -> usize
-    ensures { λ r. ⌜ (r ≡ run inCall (now (s .entry))) × (r ≤ length (now (s .entry))) ⌝ }
+pub fn before_comment(line: &[u8]) -> usize
+    ensures { λ r. ⌜ (r ≡ run inCall (now (line .entry))) × (r ≤ length (now (line .entry))) ⌝ }
 {
     let mut i = 0;
-    while i < s.len() {
-        if s[i] == HASH {
+    while i < line.len() {
+        if line[i] == HASH {
             return i;
         }
         i += 1;
@@ -152,13 +152,13 @@ pub fn before_comment(s: &[u8]) -> usize
 }
 
 // The place of the first byte from a place on that is no separator.
-pub fn after_separators(s: &[u8], at: usize) -> usize
-    requires { ⌜ at ≤ length (now s) ⌝ }
-    ensures { λ r. ⌜ (r ≡ at + run separates (drop at (now (s .entry)))) × (at ≤ r) × (r ≤ length (now (s .entry))) ⌝ }
+pub fn after_separators(line: &[u8], at: usize) -> usize
+    requires { ⌜ at ≤ length (now line) ⌝ }
+    ensures { λ r. ⌜ (r ≡ at + run separates (drop at (now (line .entry)))) × (at ≤ r) × (r ≤ length (now (line .entry))) ⌝ }
 {
     let mut i = at;
-    while i < s.len() {
-        if !separates(s[i]) {
+    while i < line.len() {
+        if !separates(line[i]) {
             return i;
         }
         i += 1;
@@ -167,13 +167,13 @@ pub fn after_separators(s: &[u8], at: usize) -> usize
 }
 
 // The place of the first separator from a place on.
-pub fn after_word(s: &[u8], at: usize) -> usize
-    requires { ⌜ at ≤ length (now s) ⌝ }
-    ensures { λ r. ⌜ (r ≡ at + run inWord (drop at (now (s .entry)))) × (at ≤ r) × (r ≤ length (now (s .entry))) ⌝ }
+pub fn after_word(line: &[u8], at: usize) -> usize
+    requires { ⌜ at ≤ length (now line) ⌝ }
+    ensures { λ r. ⌜ (r ≡ at + run inWord (drop at (now (line .entry)))) × (at ≤ r) × (r ≤ length (now (line .entry))) ⌝ }
 {
     let mut i = at;
-    while i < s.len() {
-        if separates(s[i]) {
+    while i < line.len() {
+        if separates(line[i]) {
             return i;
         }
         i += 1;

@@ -9,7 +9,7 @@ use lib.Dec.{eqb}
 use lib.ListN.{length, take, drop, take-append-drop}
 use Rattle.lists.proofs.Below.{by-test, both-left, both-right}
 use Rattle.lists.proofs.Options.{none≢some, some-is}
-use Rattle.catalogue.specs.Plain.{catalogue}
+use Rattle.catalogue.specs.Plain.{catalogue, rowsOf}
 use Rattle.wire.specs.Laid.{lay, fourWords}
 use Rattle.table.specs.Layout.{cursorSize, cursorPlace, part, put}
 use Rattle.table.specs.Seat.{Cursor, Seat, cursorBlock, cursorHeld, seatIn, seatOf, cursorIn}
@@ -21,7 +21,7 @@ use Rattle.fetch.specs.Request.{request}
 use Rattle.fetch.specs.declared.Request.{Request}
 use Rattle.fetch.proofs.Ranges.{request-sound, request-handle}
 use Rattle.fetch.specs.Fetch.{fetchCauses, fetchReply, fetched}
-use Rattle.fetch.specs.Ready.{rowsOf, FetchReady, Fetched}
+use Rattle.fetch.specs.Ready.{FetchReady, Fetched}
 use Rattle.fetch.proofs.Fetching.{reply-length, fetch-small}
 use Rattle.refusal.specs.Refusal.{firstCause, statusOf}
 use Rattle.message.specs.Message.{handleOf, bodyCauses, rowsDone, refusedOn, seatMessage}

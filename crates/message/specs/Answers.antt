@@ -4,11 +4,11 @@ use mathlib.Core.Bool.{true}
 use mathlib.Core.List.{List, _++_}
 use Prim.Native.Nat.{ℕ, _≤_}
 use lib.ListN.{length, getD, drop}
-use Rattle.catalogue.specs.Plain.{Row, catalogue}
+use Rattle.catalogue.specs.Plain.{Row, catalogue, rowsOf}
 use Rattle.table.specs.Layout.{seatSize, connectedAt}
 use Rattle.table.specs.Seat.{seatBlock, seatOf}
 use Rattle.table.specs.Well.{seatWell, seatBelow}
-use Rattle.fetch.specs.Ready.{rowsOf, Placed}
+use Rattle.fetch.specs.Ready.{Placed}
 use Rattle.refusal.specs.Refusal.{firstCause}
 use Rattle.message.specs.Message.{SeatOutcome, msgOf, kindOf, gateCauses, seatMessage}
 use Rattle.message.specs.declared.Answered.{Answered}

@@ -8,24 +8,24 @@ ghost use Rattle.message.specs.Answers.{Admitted, AnswersAny};
 use message::Answered;
 
 // Closes the cursor of a handle.
-fn close(block: &mut [u32], handle: u32)
-    requires { ⌜ length (now block) ≡ seatSize ⌝ }
-    ensures { λ _. ⌜ now (block .exit) ≡ put (now (block .entry)) (cursorPlace handle) cursorSize (cursorBlock none) ⌝ }
+fn close(seat: &mut [u32], handle: u32)
+    requires { ⌜ length (now seat) ≡ seatSize ⌝ }
+    ensures { λ _. ⌜ now (seat .exit) ≡ put (now (seat .entry)) (cursorPlace handle) cursorSize (cursorBlock none) ⌝ }
 {
     let at = table_handle::cursor_at(handle);
     let end = at + table::CURSOR_SIZE;
-    table_write::clear(&mut block[at..end]);
+    table_write::clear(&mut seat[at..end]);
 }
 
 // Disconnect: both cursors are closed, and the seat is left unconnected.
-pub fn disconnect(block: &mut [u32], m: &[u8], reply: &mut [u8], msg: u32) -> Answered
-    requires { ⌜ Admitted (now block) (now m) (now reply) msg 0 ⌝ }
-    ensures { λ r. ⌜ AnswersAny (now (block .entry)) (now (m .entry)) r (now (block .exit)) (now (reply .entry)) (now (reply .exit)) ⌝ }
+pub fn disconnect(seat: &mut [u32], message: &[u8], reply: &mut [u8], msg: u32) -> Answered
+    requires { ⌜ Admitted (now seat) (now message) (now reply) msg 0 ⌝ }
+    ensures { λ r. ⌜ AnswersAny (now (seat .entry)) (now (message .entry)) r (now (seat .exit)) (now (reply .entry)) (now (reply .exit)) ⌝ }
 {
-    if m.len() != 16 {
+    if message.len() != 16 {
         return message_gate::refuse(reply, msg, 9);
     }
-    table_write::clear(block);
+    table_write::clear(seat);
     Answered {
         refusal: 0,
         count: 0,
@@ -33,19 +33,19 @@ pub fn disconnect(block: &mut [u32], m: &[u8], reply: &mut [u8], msg: u32) -> An
 }
 
 // Free cursor: the reply counts the cursors still open.
-pub fn free(block: &mut [u32], m: &[u8], reply: &mut [u8], msg: u32) -> Answered
-    requires { ⌜ Admitted (now block) (now m) (now reply) msg 1 ⌝ }
-    ensures { λ r. ⌜ AnswersAny (now (block .entry)) (now (m .entry)) r (now (block .exit)) (now (reply .entry)) (now (reply .exit)) ⌝ }
+pub fn free(seat: &mut [u32], message: &[u8], reply: &mut [u8], msg: u32) -> Answered
+    requires { ⌜ Admitted (now seat) (now message) (now reply) msg 1 ⌝ }
+    ensures { λ r. ⌜ AnswersAny (now (seat .entry)) (now (message .entry)) r (now (seat .exit)) (now (reply .entry)) (now (reply .exit)) ⌝ }
 {
-    if m.len() != 20 {
+    if message.len() != 20 {
         return message_gate::refuse(reply, msg, 9);
     }
-    let handle = wire_word::word(m, 16);
-    if !table_handle::is_open(block, handle) {
+    let handle = wire_word::word(message, 16);
+    if !table_handle::is_open(seat, handle) {
         return message_gate::refuse(reply, msg, 10);
     }
-    close(block, handle);
-    let left = table_handle::open_count(block);
+    close(seat, handle);
+    let left = table_handle::open_count(seat);
     wire_lay_word::lay_header(reply, msg, 0);
     wire_lay_word::lay_word(reply, 16, left as u64);
     Answered {

@@ -69,24 +69,24 @@ fn tested(kind: usize) -> bool
 }
 
 // Refusals 6 to 8.
-pub fn gate(block: &[u32], m: &[u8], kind: usize) -> u32
-    requires { ⌜ (length (now block) ≡ seatSize) × (16 ≤ length (now m)) × (length (now m) ≤ 16384) × (kind ≡ kindOf (msgOf (now m))) ⌝ }
-    ensures { λ r. ⌜ r ≡ firstCause (gateCauses (seatOf (now (block .entry))) (now (m .entry))) ⌝ }
+pub fn gate(seat: &[u32], message: &[u8], kind: usize) -> u32
+    requires { ⌜ (length (now seat) ≡ seatSize) × (16 ≤ length (now message)) × (length (now message) ≤ 16384) × (kind ≡ kindOf (msgOf (now message))) ⌝ }
+    ensures { λ r. ⌜ r ≡ firstCause (gateCauses (seatOf (now (seat .entry))) (now (message .entry))) ⌝ }
 {
     if KINDS <= kind {
         return 6;
     }
-    if block[0] == 0 {
+    if seat[0] == 0 {
         return 7;
     }
-    if block[1] < 8 {
+    if seat[1] < 8 {
         return 0;
     }
     if !tested(kind) {
         return 0;
     }
-    let told = wire_word::word(m, 8) as u64;
-    if told == wire_checksum::checksum(m) {
+    let told = wire_word::word(message, 8) as u64;
+    if told == wire_checksum::checksum(message) {
         return 0;
     }
     8

@@ -18,27 +18,27 @@ use catalogue::Text;
 use page::FieldAt;
 
 // A text's block: its units and one zero unit.
-fn lay_text(reply: &mut [u8], s: &[u8], text: Text, place: usize)
-    requires { ⌜ TextStands (now s) text × (0 < text .size) × (place + 2 * text .size ≤ length (now reply)) ⌝ }
-    ensures { λ _. ⌜ now (reply .exit) ≡ lay (now (reply .entry)) place (blockOf (halves (unitsPart (now (s .entry)) text))) ⌝ }
+fn lay_text(reply: &mut [u8], catalogue: &[u8], text: Text, place: usize)
+    requires { ⌜ TextStands (now catalogue) text × (0 < text .size) × (place + 2 * text .size ≤ length (now reply)) ⌝ }
+    ensures { λ _. ⌜ now (reply .exit) ≡ lay (now (reply .entry)) place (blockOf (halves (unitsPart (now (catalogue .entry)) text))) ⌝ }
 {
-    let units = catalogue_row::units(s, text);
+    let units = catalogue_row::units(catalogue, text);
     wire_lay::lay_bytes(reply, place, units);
     let end = place + units.len();
     wire_lay_word::lay_half(reply, end, 0);
 }
 
 // A field's block, where the value is used and there is one.
-pub fn lay_block(reply: &mut [u8], s: &[u8], used: u32, field: FieldAt, place: usize)
-    requires { ⌜ FieldStands (now s) field × (place + pick (isUsed used) (blockSize (fieldSeen (now s) field)) 0 ≤ length (now reply)) ⌝ }
-    ensures { λ _. ⌜ now (reply .exit) ≡ lays (now (reply .entry)) (pick (isUsed used) (blockSpan place (fieldSeen (now (s .entry)) field)) []) ⌝ }
+pub fn lay_block(reply: &mut [u8], catalogue: &[u8], used: u32, field: FieldAt, place: usize)
+    requires { ⌜ FieldStands (now catalogue) field × (place + pick (isUsed used) (blockSize (fieldSeen (now catalogue) field)) 0 ≤ length (now reply)) ⌝ }
+    ensures { λ _. ⌜ now (reply .exit) ≡ lays (now (reply .entry)) (pick (isUsed used) (blockSpan place (fieldSeen (now (catalogue .entry)) field)) []) ⌝ }
 {
     if used != 1 {
         return;
     }
     match field {
         FieldAt::NumberIs(_) => {}
-        FieldAt::TextIs(text) => lay_text(reply, s, text, place),
+        FieldAt::TextIs(text) => lay_text(reply, catalogue, text, place),
         FieldAt::Absent => {}
     }
 }
@@ -95,20 +95,20 @@ pub fn lay_length(reply: &mut [u8], column: Column, row: usize, value: u64)
 // All of a column in the row at `row`, its block ending at `top`: the block's place is given back.
 pub fn lay_column(
     reply: &mut [u8],
-    s: &[u8],
+    catalogue: &[u8],
     fields: Fields,
     column: Column,
     base: u64,
     row: usize,
     top: usize,
 ) -> usize
-    requires { ⌜ ColumnReady (length (now reply)) (now s) fields column base row top ⌝ }
-    ensures { λ r. ⌜ r ≡ top - blockRoom column (rowOf (now (s .entry)) fields) ⌝ }
-    ensures { λ r. ⌜ now (reply .exit) ≡ lays (now (reply .entry)) (columnSpans base row r column (rowOf (now (s .entry)) fields)) ⌝ }
+    requires { ⌜ ColumnReady (length (now reply)) (now catalogue) fields column base row top ⌝ }
+    ensures { λ r. ⌜ r ≡ top - blockRoom column (rowOf (now (catalogue .entry)) fields) ⌝ }
+    ensures { λ r. ⌜ now (reply .exit) ≡ lays (now (reply .entry)) (columnSpans base row r column (rowOf (now (catalogue .entry)) fields)) ⌝ }
 {
     let found = page_field::field(fields, column.property);
     let place = top - page_field::room_of(column.value.used, found);
-    lay_block(reply, s, column.value.used, found, place);
+    lay_block(reply, catalogue, column.value.used, found, place);
     let offset = base + (place as u64);
     lay_value(
         reply,

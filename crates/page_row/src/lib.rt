@@ -25,15 +25,21 @@ pub fn place_of(places: &[u32], row: Row) -> usize
 }
 
 // The bytes of the blocks of the row at a place, by its fields.
-pub fn row_blocks(s: &[u8], at: usize, fields: Fields, words: &[u32], bound: usize) -> usize
-    requires { ⌜ Words (now words) bound × (fields ≡ fieldsSeen (now s) at) ⌝ }
-    ensures { λ r. ⌜ (r ≡ blocks (columnsOf bound (now (words .entry))) (rowSeen (now (s .entry)) at)) × (r ≤ blocksMost) ⌝ }
+pub fn row_blocks(
+    catalogue: &[u8],
+    at: usize,
+    fields: Fields,
+    records: &[u32],
+    bound: usize,
+) -> usize
+    requires { ⌜ Words (now records) bound × (fields ≡ fieldsSeen (now catalogue) at) ⌝ }
+    ensures { λ r. ⌜ (r ≡ blocks (columnsOf bound (now (records .entry))) (rowSeen (now (catalogue .entry)) at)) × (r ≤ blocksMost) ⌝ }
 {
     let mut total = 0;
     let mut k = 0;
     let mut left = bound;
     while 0 < left {
-        let column = bindings_record::column_at(words, k);
+        let column = bindings_record::column_at(records, k);
         total += page_field::block_room(column, fields);
         k += 1;
         left -= 1;
@@ -43,43 +49,43 @@ pub fn row_blocks(s: &[u8], at: usize, fields: Fields, words: &[u32], bound: usi
 
 // The room that a row takes: its width and its blocks.
 pub fn room_of(
-    s: &[u8],
+    catalogue: &[u8],
     places: &[u32],
     row: Row,
-    words: &[u32],
+    records: &[u32],
     bound: usize,
     width: usize,
 ) -> usize
-    requires { ⌜ Words (now words) bound × (width ≤ rowMost) × RowThere (now s) (getD (now places) (row .0) 0) ⌝ }
-    ensures { λ r. ⌜ r ≡ width + blocks (columnsOf bound (now (words .entry))) (rowSeen (now (s .entry)) (getD (now (places .entry)) (row .0) 0)) ⌝ }
+    requires { ⌜ Words (now records) bound × (width ≤ rowMost) × RowThere (now catalogue) (getD (now places) (row .0) 0) ⌝ }
+    ensures { λ r. ⌜ r ≡ width + blocks (columnsOf bound (now (records .entry))) (rowSeen (now (catalogue .entry)) (getD (now (places .entry)) (row .0) 0)) ⌝ }
 {
     let at = place_of(places, row);
-    let fields = catalogue_row::fields_at(s, at);
-    width + row_blocks(s, at, fields, words, bound)
+    let fields = catalogue_row::fields_at(catalogue, at);
+    width + row_blocks(catalogue, at, fields, records, bound)
 }
 
 // The row at a place of the catalogue, laid at `row` with its blocks below `top`: where the last block begins is given back.
 pub fn lay_row(
     reply: &mut [u8],
-    s: &[u8],
+    catalogue: &[u8],
     at: usize,
     fields: Fields,
-    words: &[u32],
+    records: &[u32],
     bound: usize,
     base: u64,
     row: usize,
     top: usize,
 ) -> usize
-    requires { ⌜ RowReady (length (now reply)) (now s) at fields (now words) bound base row top ⌝ }
-    ensures { λ r. ⌜ r ≡ top - blocks (columnsOf bound (now (words .entry))) (rowSeen (now (s .entry)) at) ⌝ }
-    ensures { λ r. ⌜ now (reply .exit) ≡ lays (now (reply .entry)) (rowSpans base row top (columnsOf bound (now (words .entry))) (rowSeen (now (s .entry)) at)) ⌝ }
+    requires { ⌜ RowReady (length (now reply)) (now catalogue) at fields (now records) bound base row top ⌝ }
+    ensures { λ r. ⌜ r ≡ top - blocks (columnsOf bound (now (records .entry))) (rowSeen (now (catalogue .entry)) at) ⌝ }
+    ensures { λ r. ⌜ now (reply .exit) ≡ lays (now (reply .entry)) (rowSpans base row top (columnsOf bound (now (records .entry))) (rowSeen (now (catalogue .entry)) at)) ⌝ }
 {
     let mut place = top;
     let mut k = 0;
     let mut left = bound;
     while 0 < left {
-        let column = bindings_record::column_at(words, k);
-        place = page_column::lay_column(reply, s, fields, column, base, row, place);
+        let column = bindings_record::column_at(records, k);
+        place = page_column::lay_column(reply, catalogue, fields, column, base, row, place);
         k += 1;
         left -= 1;
     }

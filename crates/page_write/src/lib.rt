@@ -14,10 +14,10 @@ use page::Row;
 // Their count is given back. Each row is read once.
 pub fn lay_rows(
     reply: &mut [u8],
-    s: &[u8],
+    catalogue: &[u8],
     places: &[u32],
     numbers: &[u32],
-    words: &[u32],
+    records: &[u32],
     bound: usize,
     width: usize,
     base: u64,
@@ -25,9 +25,9 @@ pub fn lay_rows(
     size: usize,
     asked: usize,
 ) -> usize
-    requires { ⌜ RowsReady (length (now reply)) (now words) bound width base from size × There (now s) (now places) (now numbers) ⌝ }
-    ensures { λ r. ⌜ r ≡ returned width (columnsOf bound (now (words .entry))) asked (size - from) (rowsAt (now (s .entry)) (now (places .entry)) (now (numbers .entry))) ⌝ }
-    ensures { λ r. ⌜ now (reply .exit) ≡ lays (now (reply .entry)) (rowsSpans base width from size (columnsOf bound (now (words .entry))) (take r (rowsAt (now (s .entry)) (now (places .entry)) (now (numbers .entry))))) ⌝ }
+    requires { ⌜ RowsReady (length (now reply)) (now records) bound width base from size × There (now catalogue) (now places) (now numbers) ⌝ }
+    ensures { λ r. ⌜ r ≡ returned width (columnsOf bound (now (records .entry))) asked (size - from) (rowsAt (now (catalogue .entry)) (now (places .entry)) (now (numbers .entry))) ⌝ }
+    ensures { λ r. ⌜ now (reply .exit) ≡ lays (now (reply .entry)) (rowsSpans base width from size (columnsOf bound (now (records .entry))) (take r (rowsAt (now (catalogue .entry)) (now (places .entry)) (now (numbers .entry))))) ⌝ }
 {
     let mut row = from;
     let mut top = size;
@@ -38,12 +38,12 @@ pub fn lay_rows(
         }
         let number = numbers[sent];
         let at = page_row::place_of(places, Row(number));
-        let fields = catalogue_row::fields_at(s, at);
-        let need = width + page_row::row_blocks(s, at, fields, words, bound);
+        let fields = catalogue_row::fields_at(catalogue, at);
+        let need = width + page_row::row_blocks(catalogue, at, fields, records, bound);
         if top - row < need {
             return sent;
         }
-        top = page_row::lay_row(reply, s, at, fields, words, bound, base, row, top);
+        top = page_row::lay_row(reply, catalogue, at, fields, records, bound, base, row, top);
         row += width;
         sent += 1;
     }
@@ -68,10 +68,10 @@ pub fn status_for(remaining: usize) -> u32
 // Their count is given back.
 pub fn page(
     reply: &mut [u8],
-    s: &[u8],
+    catalogue: &[u8],
     places: &[u32],
     numbers: &[u32],
-    words: &[u32],
+    records: &[u32],
     bound: usize,
     width: usize,
     size: usize,
@@ -79,17 +79,17 @@ pub fn page(
     base: u64,
     asked: usize,
 ) -> usize
-    requires { ⌜ PageReady (length (now reply)) (now words) bound width (length (now numbers)) size from base × There (now s) (now places) (now numbers) ⌝ }
-    ensures { λ r. ⌜ r ≡ returned width (columnsOf bound (now (words .entry))) asked (size - from) (rowsAt (now (s .entry)) (now (places .entry)) (now (numbers .entry))) ⌝ }
-    ensures { λ r. ⌜ now (reply .exit) ≡ page size from width base (statusFor (length (now (numbers .entry)) - r)) (columnsOf bound (now (words .entry))) (take r (rowsAt (now (s .entry)) (now (places .entry)) (now (numbers .entry)))) (now (reply .entry)) ⌝ }
+    requires { ⌜ PageReady (length (now reply)) (now records) bound width (length (now numbers)) size from base × There (now catalogue) (now places) (now numbers) ⌝ }
+    ensures { λ r. ⌜ r ≡ returned width (columnsOf bound (now (records .entry))) asked (size - from) (rowsAt (now (catalogue .entry)) (now (places .entry)) (now (numbers .entry))) ⌝ }
+    ensures { λ r. ⌜ now (reply .exit) ≡ page size from width base (statusFor (length (now (numbers .entry)) - r)) (columnsOf bound (now (records .entry))) (take r (rowsAt (now (catalogue .entry)) (now (places .entry)) (now (numbers .entry)))) (now (reply .entry)) ⌝ }
 {
     wire_lay::clear_first(reply, size);
     let sent = lay_rows(
         reply,
-        s,
+        catalogue,
         places,
         numbers,
-        words,
+        records,
         bound,
         width,
         base,

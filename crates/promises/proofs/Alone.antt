@@ -9,7 +9,7 @@ use borrow.Author.Tests.{le-ltb}
 use lib.Dec.{eqb}
 use Rattle.lists.specs.Below.{pick}
 use Rattle.lists.proofs.Below.{by-test}
-use Rattle.catalogue.specs.Plain.{catalogue}
+use Rattle.catalogue.specs.Plain.{catalogue, rowsOf}
 use Rattle.tree.specs.Reader.{restriction}
 use Rattle.tree.specs.Select.{selectedBy}
 use Rattle.table.specs.Layout.{seats}
@@ -20,7 +20,6 @@ use Rattle.table.proofs.Seats.{seat-block}
 use Rattle.table.proofs.Tables.{seat-same, seat-other}
 use Rattle.refusal.specs.Refusal.{firstCause}
 use Rattle.refusal.proofs.First.{first-go}
-use Rattle.fetch.specs.Ready.{rowsOf}
 use Rattle.message.specs.Message.{seatMessage}
 use Rattle.message.proofs.Bodies.{with-fits}
 use Rattle.message.proofs.Keeping.{message-fits}

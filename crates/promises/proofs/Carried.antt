@@ -13,7 +13,7 @@ use lib.ListN.{length}
 use Rattle.lists.specs.Below.{pick, both}
 use Rattle.wire.specs.Word.{numberAt}
 use Rattle.lists.proofs.Below.{by-test, true≢false}
-use Rattle.catalogue.specs.Plain.{Row}
+use Rattle.catalogue.specs.Plain.{Row, rowsOf}
 use Rattle.bindings.specs.Bindings.{Bindings}
 use Rattle.bindings.specs.Plain.{bindings}
 use Rattle.tree.specs.Reader.{restriction}
@@ -27,7 +27,6 @@ use Rattle.refusal.proofs.First.{first-both}
 use Rattle.fetch.specs.Request.{request}
 use Rattle.fetch.specs.declared.Request.{Request}
 use Rattle.fetch.specs.Fetch.{sent, fetchReply, fetched}
-use Rattle.fetch.specs.Ready.{rowsOf}
 use Rattle.message.specs.Message.{msgOf, handleOf, kindOf, kindFrom, served, unread, unfit, boundTo, gateCauses, bodyCauses, bodyOf, seatCauses, rowsDone, doneOn, seatMessage}
 use Rattle.table.specs.Open.{isOpen}
 use Rattle.message.proofs.Answering.{gate-numbered}

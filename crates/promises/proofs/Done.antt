@@ -9,11 +9,10 @@ use lib.Dec.{eqb}
 use Rattle.wire.specs.Word.{le}
 use Rattle.lists.proofs.Below.{by-test}
 use Rattle.lists.proofs.Options.{some-is}
-use Rattle.catalogue.specs.Plain.{Row, catalogue}
+use Rattle.catalogue.specs.Plain.{Row, catalogue, rowsOf}
 use Rattle.wire.specs.Laid.{fourWords}
 use Rattle.table.specs.Seat.{Seat, fresh}
 use Rattle.refusal.specs.Refusal.{firstCause}
-use Rattle.fetch.specs.Ready.{rowsOf}
 use Rattle.message.specs.Message.{msgOf, kindOf, kindFrom, served, seatCauses, seatMessage}
 use Rattle.table.specs.Open.{stillOpen}
 use Rattle.message.proofs.Keeping.{message-fits}

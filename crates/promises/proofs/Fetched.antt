@@ -10,7 +10,7 @@ use borrow.Author.Tests.{eqb-false, eq-eqb}
 use lib.Dec.{eqb}
 use lib.ListN.{length}
 use Rattle.lists.proofs.Below.{by-test}
-use Rattle.catalogue.specs.Plain.{Row, catalogue}
+use Rattle.catalogue.specs.Plain.{Row, catalogue, rowsOf}
 use Rattle.bindings.specs.Fit.{fit}
 use Rattle.table.specs.Layout.{seats}
 use Rattle.table.specs.Seat.{Cursor, Seat, cursorIn}
@@ -19,7 +19,6 @@ use Rattle.refusal.specs.Refusal.{firstCause}
 use Rattle.fetch.specs.Request.{request, Sound}
 use Rattle.fetch.specs.declared.Request.{Request}
 use Rattle.fetch.specs.Fetch.{fetchReply}
-use Rattle.fetch.specs.Ready.{rowsOf}
 use Rattle.message.specs.Message.{msgOf, handleOf, kindOf, kindFrom, served, seatCauses, doneOn, seatMessage}
 use Rattle.table.specs.Open.{isOpen}
 use Rattle.call.specs.Step.{Sources, sourcesOf, judging, seatHeld, sizing, messageStep}

@@ -9,13 +9,12 @@ use native.Mathlib.Omega.{arith}
 use borrow.Author.Tests.{eqb-true, eqb-false}
 use lib.Dec.{eqb}
 use Rattle.lists.proofs.Below.{by-test}
-use Rattle.catalogue.specs.Plain.{Row}
+use Rattle.catalogue.specs.Plain.{Row, rowsOf}
 use Rattle.table.specs.Seat.{Cursor, Seat, cursorIn}
 use Rattle.fetch.specs.Request.{request}
 use Rattle.fetch.specs.declared.Request.{Request}
 use Rattle.refusal.specs.Refusal.{firstCause}
 use Rattle.refusal.proofs.First.{Numbered, first-stop, first-go, first-both}
-use Rattle.fetch.specs.Ready.{rowsOf}
 use Rattle.message.specs.Message.{kindOf, served, msgOf, handleOf, bodyCauses, seatCauses, rowsCauses, rowsDone, doneOn, doneBy, seatMessage}
 use Rattle.query.specs.Open.{openCauses}
 use Rattle.call.specs.Step.{Sources, judging, seatHeld, isConnected, sizing, connectCauses, connectStep, messageStep, openDone, openStep}

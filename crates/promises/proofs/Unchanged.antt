@@ -7,11 +7,10 @@ use native.Mathlib.Omega.{arith}
 use borrow.Author.Tests.{eqb-true, lt-ltb, le-ltb}
 use lib.Dec.{eqb}
 use Rattle.lists.proofs.Below.{by-test}
-use Rattle.catalogue.specs.Plain.{Row}
+use Rattle.catalogue.specs.Plain.{Row, rowsOf}
 use Rattle.table.specs.Seat.{Seat}
 use Rattle.refusal.specs.Refusal.{firstCause}
 use Rattle.refusal.proofs.First.{first-under}
-use Rattle.fetch.specs.Ready.{rowsOf}
 use Rattle.message.specs.Message.{seatCauses, seatMessage}
 use Rattle.query.specs.Open.{openCauses}
 use Rattle.call.specs.Step.{Sources, judging, seatHeld, sizing, connectCauses, connectStep, messageStep, openDone, openStep}

@@ -8,7 +8,7 @@ use lib.ListN.{length, getD}
 use Rattle.lists.specs.Below.{pick}
 use Rattle.wire.specs.Laid.{fourWords}
 use Rattle.refusal.specs.Refusal.{statusOf}
-use Rattle.fetch.specs.Ready.{rowsOf}
+use Rattle.catalogue.specs.Plain.{rowsOf}
 use Rattle.message.specs.Message.{msgOf, seatCauses}
 use Rattle.query.specs.Open.{openCauses}
 use Rattle.call.specs.Step.{Sources, Outcome, judging, seatHeld, sizing, connectCauses}

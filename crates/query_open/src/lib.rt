@@ -14,31 +14,31 @@ ghost use Rattle.tree.specs.Noted.{Noted};
 use query::Opened;
 
 // The lowest free handle, or 0.
-fn free_handle(block: &[u32]) -> u32
-    requires { ⌜ length (now block) ≡ seatSize ⌝ }
-    ensures { λ r. ⌜ r ≡ freeHandle (seatIn (now (block .entry))) ⌝ }
+fn free_handle(seat: &[u32]) -> u32
+    requires { ⌜ length (now seat) ≡ seatSize ⌝ }
+    ensures { λ r. ⌜ r ≡ freeHandle (seatIn (now (seat .entry))) ⌝ }
 {
-    if !table_handle::is_open(block, 1) {
+    if !table_handle::is_open(seat, 1) {
         return 1;
     }
-    if !table_handle::is_open(block, 2) {
+    if !table_handle::is_open(seat, 2) {
         return 2;
     }
     0
 }
 
 // Refusals 7, 14 and 16 on a seat's block, or the handle to open.
-pub fn judge(block: &[u32], tree: &[u8]) -> Opened
-    requires { ⌜ length (now block) ≡ seatSize ⌝ }
-    ensures { λ r. ⌜ Judged (seatOf (now (block .entry))) (now (tree .entry)) r ⌝ }
+pub fn judge(seat: &[u32], tree: &[u8]) -> Opened
+    requires { ⌜ length (now seat) ≡ seatSize ⌝ }
+    ensures { λ r. ⌜ Judged (seatOf (now (seat .entry))) (now (tree .entry)) r ⌝ }
 {
-    if block[0] == 0 {
+    if seat[0] == 0 {
         return Opened {
             refusal: 7,
             handle: 0,
         };
     }
-    let handle = free_handle(block);
+    let handle = free_handle(seat);
     if handle == 0 {
         return Opened {
             refusal: 14,
@@ -55,33 +55,33 @@ pub fn judge(block: &[u32], tree: &[u8]) -> Opened
 }
 
 // Opens a closed cursor on the rows that a tree selects.
-fn fill(block: &mut [u32], tree: &[u8], catalogue: &[u8], rows: u32, places: &[u32; 1024])
-    requires { ⌜ (now block ≡ cursorBlock none) × (isTree (restriction (now tree)) ≡ true) × Noted (now catalogue) rows (now places) ⌝ }
-    ensures { λ _. ⌜ now (block .exit) ≡ cursorBlock (some (opened (selected (now (tree .entry)) (now (catalogue .entry))))) ⌝ }
+fn fill(cursor: &mut [u32], tree: &[u8], catalogue: &[u8], rows: u32, places: &[u32; 1024])
+    requires { ⌜ (now cursor ≡ cursorBlock none) × (isTree (restriction (now tree)) ≡ true) × Noted (now catalogue) rows (now places) ⌝ }
+    ensures { λ _. ⌜ now (cursor .exit) ≡ cursorBlock (some (opened (selected (now (tree .entry)) (now (catalogue .entry))))) ⌝ }
 {
     let count = tree_select::select(
         tree,
         catalogue,
         rows,
         places,
-        &mut block[table::ROWS..table::CURSOR_SIZE],
+        &mut cursor[table::ROWS..table::CURSOR_SIZE],
     );
-    table_write::open(block, count);
+    table_write::open(cursor, count);
 }
 
 // The same in a seat's block, under a handle.
 pub fn open(
-    block: &mut [u32],
+    seat: &mut [u32],
     handle: u32,
     tree: &[u8],
     catalogue: &[u8],
     rows: u32,
     places: &[u32; 1024],
 )
-    requires { ⌜ (length (now block) ≡ seatSize) × (part (now block) (cursorPlace handle) cursorSize ≡ cursorBlock none) × (isTree (restriction (now tree)) ≡ true) × Noted (now catalogue) rows (now places) ⌝ }
-    ensures { λ _. ⌜ now (block .exit) ≡ put (now (block .entry)) (cursorPlace handle) cursorSize (cursorBlock (some (opened (selected (now (tree .entry)) (now (catalogue .entry)))))) ⌝ }
+    requires { ⌜ (length (now seat) ≡ seatSize) × (part (now seat) (cursorPlace handle) cursorSize ≡ cursorBlock none) × (isTree (restriction (now tree)) ≡ true) × Noted (now catalogue) rows (now places) ⌝ }
+    ensures { λ _. ⌜ now (seat .exit) ≡ put (now (seat .entry)) (cursorPlace handle) cursorSize (cursorBlock (some (opened (selected (now (tree .entry)) (now (catalogue .entry)))))) ⌝ }
 {
     let at = table_handle::cursor_at(handle);
     let end = at + table::CURSOR_SIZE;
-    fill(&mut block[at..end], tree, catalogue, rows, places);
+    fill(&mut seat[at..end], tree, catalogue, rows, places);
 }

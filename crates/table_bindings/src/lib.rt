@@ -39,11 +39,11 @@ fn flagged(used: u32, rest: u64) -> bool
 }
 
 // The flags of the k-th column.
-fn tidy(records: &[u32], k: usize) -> bool
-    requires { ⌜ (length (now records) ≡ recordsSize) × (k < columnsMost) ⌝ }
-    ensures { λ r. ⌜ r ≡ tidy (columnAt (now (records .entry)) k) ⌝ }
+fn tidy(records: &[u32], index: usize) -> bool
+    requires { ⌜ (length (now records) ≡ recordsSize) × (index < columnsMost) ⌝ }
+    ensures { λ r. ⌜ r ≡ tidy (columnAt (now (records .entry)) index) ⌝ }
 {
-    let at = bindings::COLUMN_WORDS * k;
+    let at = bindings::COLUMN_WORDS * index;
     let value = wide(records[at + 3]) + wide(records[at + 4]);
     if !flagged(records[at + 2], value) {
         return false;
@@ -90,17 +90,17 @@ fn bound_well(records: &[u32], count: u32, width: u32) -> bool
 }
 
 // The bindings of a cursor.
-pub fn bindings_well(block: &[u32]) -> bool
-    requires { ⌜ length (now block) ≡ cursorSize ⌝ }
-    ensures { λ r. ⌜ r ≡ bindingsWell (now (block .entry)) ⌝ }
+pub fn bindings_well(cursor: &[u32]) -> bool
+    requires { ⌜ length (now cursor) ≡ cursorSize ⌝ }
+    ensures { λ r. ⌜ r ≡ bindingsWell (now (cursor .entry)) ⌝ }
 {
-    let count = block[table::COLUMNS];
+    let count = cursor[table::COLUMNS];
     if count == 0 {
-        return all_zero(&block[table::WIDTH..table::ROWS]);
+        return all_zero(&cursor[table::WIDTH..table::ROWS]);
     }
     bound_well(
-        &block[table::RECORDS..table::ROWS],
+        &cursor[table::RECORDS..table::ROWS],
         count,
-        block[table::WIDTH],
+        cursor[table::WIDTH],
     )
 }

@@ -38,34 +38,34 @@ fn selection_well(rows: &[u32], count: usize) -> bool
 }
 
 // The block of an open cursor.
-fn open_well(block: &[u32]) -> bool
-    requires { ⌜ length (now block) ≡ cursorSize ⌝ }
-    ensures { λ r. ⌜ r ≡ openWell (now (block .entry)) ⌝ }
+fn open_well(cursor: &[u32]) -> bool
+    requires { ⌜ length (now cursor) ≡ cursorSize ⌝ }
+    ensures { λ r. ⌜ r ≡ openWell (now (cursor .entry)) ⌝ }
 {
-    let count = block[table::COUNT];
-    if count < block[table::POSITION] {
+    let count = cursor[table::COUNT];
+    if count < cursor[table::POSITION] {
         return false;
     }
     if ROWS_SIZE < count {
         return false;
     }
-    if !table_bindings::bindings_well(block) {
+    if !table_bindings::bindings_well(cursor) {
         return false;
     }
-    selection_well(&block[table::ROWS..], count as usize)
+    selection_well(&cursor[table::ROWS..], count as usize)
 }
 
 // The block of a cursor.
-pub fn cursor_well(block: &[u32]) -> bool
-    requires { ⌜ length (now block) ≡ cursorSize ⌝ }
-    ensures { λ r. ⌜ r ≡ cursorWell (now (block .entry)) ⌝ }
+pub fn cursor_well(cursor: &[u32]) -> bool
+    requires { ⌜ length (now cursor) ≡ cursorSize ⌝ }
+    ensures { λ r. ⌜ r ≡ cursorWell (now (cursor .entry)) ⌝ }
 {
-    let open = block[table::OPEN];
+    let open = cursor[table::OPEN];
     if open == 0 {
-        return table_bindings::all_zero(block);
+        return table_bindings::all_zero(cursor);
     }
     if open != 1 {
         return false;
     }
-    open_well(block)
+    open_well(cursor)
 }

@@ -6,26 +6,26 @@ ghost use Rattle.table.specs.Seat.{cursorIn, seatIn};
 ghost use Rattle.table.specs.Open.{isOpen, stillOpen};
 
 // Whether a handle is open.
-pub fn is_open(block: &[u32], handle: u32) -> bool
-    requires { ⌜ length (now block) ≡ seatSize ⌝ }
-    ensures { λ r. ⌜ r ≡ isOpen (cursorIn (seatIn (now (block .entry))) handle) ⌝ }
+pub fn is_open(seat: &[u32], handle: u32) -> bool
+    requires { ⌜ length (now seat) ≡ seatSize ⌝ }
+    ensures { λ r. ⌜ r ≡ isOpen (cursorIn (seatIn (now (seat .entry))) handle) ⌝ }
 {
     if handle == 1 {
-        return block[table::FIRST] != 0;
+        return seat[table::FIRST] != 0;
     }
     if handle == 2 {
-        return block[table::SECOND] != 0;
+        return seat[table::SECOND] != 0;
     }
     false
 }
 
 // How many cursors are open.
-pub fn open_count(block: &[u32]) -> u32
-    requires { ⌜ length (now block) ≡ seatSize ⌝ }
-    ensures { λ r. ⌜ r ≡ stillOpen (seatIn (now (block .entry))) ⌝ }
+pub fn open_count(seat: &[u32]) -> u32
+    requires { ⌜ length (now seat) ≡ seatSize ⌝ }
+    ensures { λ r. ⌜ r ≡ stillOpen (seatIn (now (seat .entry))) ⌝ }
 {
-    let first = is_open(block, 1);
-    let second = is_open(block, 2);
+    let first = is_open(seat, 1);
+    let second = is_open(seat, 2);
     if first {
         if second {
             return 2;

@@ -9,21 +9,21 @@ ghost use Rattle.table.specs.Well.{cursorWell, seatWell, tableWell, cursorBelow
 pub const TABLE_SIZE: usize = 17200;
 
 // The block of a seat.
-fn seat_well(block: &[u32]) -> bool
-    requires { ⌜ length (now block) ≡ seatSize ⌝ }
-    ensures { λ r. ⌜ r ≡ seatWell (now (block .entry)) ⌝ }
+fn seat_well(seat: &[u32]) -> bool
+    requires { ⌜ length (now seat) ≡ seatSize ⌝ }
+    ensures { λ r. ⌜ r ≡ seatWell (now (seat .entry)) ⌝ }
 {
-    let connected = block[table::CONNECTED];
+    let connected = seat[table::CONNECTED];
     if connected == 0 {
-        return table_bindings::all_zero(block);
+        return table_bindings::all_zero(seat);
     }
     if connected != 1 {
         return false;
     }
-    if !table_cursor::cursor_well(&block[table::FIRST..table::SECOND]) {
+    if !table_cursor::cursor_well(&seat[table::FIRST..table::SECOND]) {
         return false;
     }
-    table_cursor::cursor_well(&block[table::SECOND..table::SEAT_SIZE])
+    table_cursor::cursor_well(&seat[table::SECOND..table::SEAT_SIZE])
 }
 
 // The whole table: refusal 2 is given exactly where it is not well.
@@ -46,33 +46,33 @@ pub fn well(table: &[u32]) -> bool
 }
 
 // The row numbers of a cursor are below the row count. They rise, so the last one decides.
-fn cursor_below(block: &[u32], rows: u32) -> bool
-    requires { ⌜ (length (now block) ≡ cursorSize) × (cursorWell (now block) ≡ true) ⌝ }
-    ensures { λ r. ⌜ r ≡ cursorBelow rows (cursorOf (now (block .entry))) ⌝ }
+fn cursor_below(cursor: &[u32], rows: u32) -> bool
+    requires { ⌜ (length (now cursor) ≡ cursorSize) × (cursorWell (now cursor) ≡ true) ⌝ }
+    ensures { λ r. ⌜ r ≡ cursorBelow rows (cursorOf (now (cursor .entry))) ⌝ }
 {
-    if block[table::OPEN] == 0 {
+    if cursor[table::OPEN] == 0 {
         return true;
     }
-    let count = block[table::COUNT] as usize;
+    let count = cursor[table::COUNT] as usize;
     if count == 0 {
         return true;
     }
     let last = table::ROWS + count - 1;
-    block[last] < rows
+    cursor[last] < rows
 }
 
 // The row numbers of both cursors of a seat.
-fn seat_below(block: &[u32], rows: u32) -> bool
-    requires { ⌜ (length (now block) ≡ seatSize) × (seatWell (now block) ≡ true) ⌝ }
-    ensures { λ r. ⌜ r ≡ seatBelow rows (seatOf (now (block .entry))) ⌝ }
+fn seat_below(seat: &[u32], rows: u32) -> bool
+    requires { ⌜ (length (now seat) ≡ seatSize) × (seatWell (now seat) ≡ true) ⌝ }
+    ensures { λ r. ⌜ r ≡ seatBelow rows (seatOf (now (seat .entry))) ⌝ }
 {
-    if block[table::CONNECTED] == 0 {
+    if seat[table::CONNECTED] == 0 {
         return true;
     }
-    if !cursor_below(&block[table::FIRST..table::SECOND], rows) {
+    if !cursor_below(&seat[table::FIRST..table::SECOND], rows) {
         return false;
     }
-    cursor_below(&block[table::SECOND..table::SEAT_SIZE], rows)
+    cursor_below(&seat[table::SECOND..table::SEAT_SIZE], rows)
 }
 
 // The row numbers of every open cursor: the second half of refusal 3 is given exactly where they are not all below the count.

@@ -17,29 +17,29 @@ pub fn clear(words: &mut [u32])
 }
 
 // Connects a seat.
-pub fn connect(block: &mut [u32], version: u32)
-    requires { ⌜ now block ≡ seatBlock none ⌝ }
-    ensures { λ _. ⌜ now (block .exit) ≡ seatBlock (some (fresh version)) ⌝ }
+pub fn connect(seat: &mut [u32], version: u32)
+    requires { ⌜ now seat ≡ seatBlock none ⌝ }
+    ensures { λ _. ⌜ now (seat .exit) ≡ seatBlock (some (fresh version)) ⌝ }
 {
-    block[table::CONNECTED] = 1;
-    block[table::VERSION] = version;
+    seat[table::CONNECTED] = 1;
+    seat[table::VERSION] = version;
 }
 
 // Opens a cursor whose row numbers stand in its block.
-pub fn open(block: &mut [u32], count: u32)
-    requires { ⌜ length (now block) ≡ cursorSize ⌝ }
-    ensures { λ _. ⌜ now (block .exit) ≡ set (set (now (block .entry)) openAt 1) countAt count ⌝ }
+pub fn open(cursor: &mut [u32], count: u32)
+    requires { ⌜ length (now cursor) ≡ cursorSize ⌝ }
+    ensures { λ _. ⌜ now (cursor .exit) ≡ set (set (now (cursor .entry)) openAt 1) countAt count ⌝ }
 {
-    block[table::OPEN] = 1;
-    block[table::COUNT] = count;
+    cursor[table::OPEN] = 1;
+    cursor[table::COUNT] = count;
 }
 
 // Moves a cursor.
-pub fn move_to(block: &mut [u32], position: u32)
-    requires { ⌜ length (now block) ≡ cursorSize ⌝ }
-    ensures { λ _. ⌜ now (block .exit) ≡ set (now (block .entry)) positionAt position ⌝ }
+pub fn move_to(cursor: &mut [u32], position: u32)
+    requires { ⌜ length (now cursor) ≡ cursorSize ⌝ }
+    ensures { λ _. ⌜ now (cursor .exit) ≡ set (now (cursor .entry)) positionAt position ⌝ }
 {
-    block[table::POSITION] = position;
+    cursor[table::POSITION] = position;
 }
 
 fn copy(from: &[u32], into: &mut [u32])
@@ -54,11 +54,11 @@ fn copy(from: &[u32], into: &mut [u32])
 }
 
 // Sets a cursor's bindings.
-pub fn bind(block: &mut [u32], records: &[u32], count: u32, width: u32)
-    requires { ⌜ (length (now block) ≡ cursorSize) × (length (now records) ≡ recordsSize) ⌝ }
-    ensures { λ _. ⌜ now (block .exit) ≡ put (set (set (now (block .entry)) columnsAt count) widthAt width) recordsAt recordsSize (now (records .entry)) ⌝ }
+pub fn bind(cursor: &mut [u32], records: &[u32], count: u32, width: u32)
+    requires { ⌜ (length (now cursor) ≡ cursorSize) × (length (now records) ≡ recordsSize) ⌝ }
+    ensures { λ _. ⌜ now (cursor .exit) ≡ put (set (set (now (cursor .entry)) columnsAt count) widthAt width) recordsAt recordsSize (now (records .entry)) ⌝ }
 {
-    block[table::COLUMNS] = count;
-    block[table::WIDTH] = width;
-    copy(records, &mut block[table::RECORDS..table::ROWS]);
+    cursor[table::COLUMNS] = count;
+    cursor[table::WIDTH] = width;
+    copy(records, &mut cursor[table::RECORDS..table::ROWS]);
 }

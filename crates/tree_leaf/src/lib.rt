@@ -24,13 +24,13 @@ pub fn padding(place: usize) -> usize
 }
 
 // Whether n bytes from an index on are zero.
-pub fn zeros(s: &[u8], at: usize, n: usize) -> bool
-    requires { ⌜ at + n ≤ length (now s) ⌝ }
-    ensures { λ r. ⌜ r ≡ zeros (now (s .entry)) at n ⌝ }
+pub fn zeros(bytes: &[u8], at: usize, count: usize) -> bool
+    requires { ⌜ at + count ≤ length (now bytes) ⌝ }
+    ensures { λ r. ⌜ r ≡ zeros (now (bytes .entry)) at count ⌝ }
 {
     let mut i = 0;
-    while i < n {
-        if s[at + i] != 0 {
+    while i < count {
+        if bytes[at + i] != 0 {
             return false;
         }
         i += 1;
@@ -39,13 +39,13 @@ pub fn zeros(s: &[u8], at: usize, n: usize) -> bool
 }
 
 // Whether the set identifier at an index is ours.
-fn is_set(s: &[u8], at: usize) -> bool
-    requires { ⌜ at + 16 ≤ length (now s) ⌝ }
-    ensures { λ r. ⌜ r ≡ isSet (now (s .entry)) at ⌝ }
+fn is_set(bytes: &[u8], at: usize) -> bool
+    requires { ⌜ at + 16 ≤ length (now bytes) ⌝ }
+    ensures { λ r. ⌜ r ≡ isSet (now (bytes .entry)) at ⌝ }
 {
     let mut i = 0;
     while i < 16 {
-        if s[at + i] as usize != 0x10 + i {
+        if bytes[at + i] as usize != 0x10 + i {
             return false;
         }
         i += 1;
@@ -54,12 +54,15 @@ fn is_set(s: &[u8], at: usize) -> bool
 }
 
 // The number of the property that stands at an index, or 0 where it is not one of ours.
-pub fn property(s: &[u8], at: usize) -> u32
-    requires { ⌜ at + propertySize ≤ length (now s) ⌝ }
-    ensures { λ r. ⌜ r ≡ propertyAt (now (s .entry)) at ⌝ }
+pub fn property(bytes: &[u8], at: usize) -> u32
+    requires { ⌜ at + propertySize ≤ length (now bytes) ⌝ }
+    ensures { λ r. ⌜ r ≡ propertyAt (now (bytes .entry)) at ⌝ }
 {
-    if both(is_set(s, at), wire_word::word(s, at + 16) == NUMBERED) {
-        return wire_word::word(s, at + 20);
+    if both(
+        is_set(bytes, at),
+        wire_word::word(bytes, at + 16) == NUMBERED,
+    ) {
+        return wire_word::word(bytes, at + 20);
     }
     0
 }
@@ -103,25 +106,25 @@ const NUMBER_TYPE: u32 = 0x0013;
 const RELATION_SIZE: usize = 44;
 
 // The phrase that stands at an index, with the padding on both sides of it.
-fn read_phrase(s: &[u8], place: usize, at: usize) -> PhraseAt
+fn read_phrase(unread: &[u8], place: usize, at: usize) -> PhraseAt
     requires { ⌜ (place < 2 ^ 62) × (at ≤ 2 ^ 61) ⌝ }
-    ensures { λ r. ⌜ r ≡ phraseAt (now (s .entry)) place at ⌝ }
+    ensures { λ r. ⌜ r ≡ phraseAt (now (unread .entry)) place at ⌝ }
 {
     let before = padding(place + at);
     let size = at + before;
     let start = size + 4;
-    if s.len() < start {
+    if unread.len() < start {
         return PhraseAt::NoPhrase;
     }
-    let units = wire_word::word(s, size);
+    let units = wire_word::word(unread, size);
     let count = units as usize;
     let end = start + 2 * count;
     let after = padding(place + end);
     let next = end + after;
-    if s.len() < next {
+    if unread.len() < next {
         return PhraseAt::NoPhrase;
     }
-    let clear = both(zeros(s, at, before), zeros(s, end, after));
+    let clear = both(zeros(unread, at, before), zeros(unread, end, after));
     if both(within(1, units, PHRASE_MOST), clear) {
         return PhraseAt::PhraseTo(start, count, next);
     }
@@ -129,19 +132,19 @@ fn read_phrase(s: &[u8], place: usize, at: usize) -> PhraseAt
 }
 
 // A content leaf.
-fn read_content(s: &[u8], place: usize) -> LeafAt
+fn read_content(unread: &[u8], place: usize) -> LeafAt
     requires { ⌜ place < 2 ^ 62 ⌝ }
-    ensures { λ r. ⌜ r ≡ contentAt (now (s .entry)) place ⌝ }
+    ensures { λ r. ⌜ r ≡ contentAt (now (unread .entry)) place ⌝ }
 {
-    let PhraseAt::PhraseTo(start, count, locale) = read_phrase(s, place, 32) else {
+    let PhraseAt::PhraseTo(start, count, locale) = read_phrase(unread, place, 32) else {
         return LeafAt::NoLeaf;
     };
     let used = locale + 8;
-    if s.len() < used {
+    if unread.len() < used {
         return LeafAt::NoLeaf;
     }
-    let property = property(s, 8);
-    let method = wire_word::word(s, locale + 4);
+    let property = property(unread, 8);
+    let method = wire_word::word(unread, locale + 4);
     if both(within(LABEL, property, NOTE), method <= 1) {
         return LeafAt::LeafTo(
             Parts::OfContent(Content {
@@ -157,19 +160,19 @@ fn read_content(s: &[u8], place: usize) -> LeafAt
 }
 
 // A property leaf.
-fn read_relation(s: &[u8]) -> LeafAt
-    ensures { λ r. ⌜ r ≡ relationAt (now (s .entry)) ⌝ }
+fn read_relation(unread: &[u8]) -> LeafAt
+    ensures { λ r. ⌜ r ≡ relationAt (now (unread .entry)) ⌝ }
 {
-    if s.len() < RELATION_SIZE {
+    if unread.len() < RELATION_SIZE {
         return LeafAt::NoLeaf;
     }
-    let relop = wire_word::word(s, 8);
-    let property = property(s, 12);
+    let relop = wire_word::word(unread, 8);
+    let property = property(unread, 12);
     let typed = both(
-        wire_word::half(s, 36) == NUMBER_TYPE,
-        wire_word::half(s, 38) == 0,
+        wire_word::half(unread, 36) == NUMBER_TYPE,
+        wire_word::half(unread, 38) == 0,
     );
-    let value = wire_word::word(s, 40) as u64;
+    let value = wire_word::word(unread, 40) as u64;
     if both(both(relop <= 5, within(KEY, property, DEFAULT)), typed) {
         return LeafAt::LeafTo(
             Parts::OfRelation(Relation {
@@ -184,15 +187,15 @@ fn read_relation(s: &[u8]) -> LeafAt
 }
 
 // The leaf of a kind.
-pub fn read_leaf(kind: u32, s: &[u8], place: usize) -> LeafAt
+pub fn read_leaf(kind: u32, unread: &[u8], place: usize) -> LeafAt
     requires { ⌜ place < 2 ^ 62 ⌝ }
-    ensures { λ r. ⌜ r ≡ leafAt kind (now (s .entry)) place ⌝ }
+    ensures { λ r. ⌜ r ≡ leafAt kind (now (unread .entry)) place ⌝ }
 {
     if kind == CONTENT {
-        return read_content(s, place);
+        return read_content(unread, place);
     }
     if kind == PROPERTY {
-        return read_relation(s);
+        return read_relation(unread);
     }
     LeafAt::NoLeaf
 }

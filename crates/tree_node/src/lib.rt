@@ -21,12 +21,12 @@ const HEAD_SIZE: usize = 8;
 const LIST_HEAD: usize = 12;
 
 // A leaf as a node.
-fn leaf_node(kind: u32, s: &[u8], place: usize, nodes: u32) -> NodeRead
+fn leaf_node(kind: u32, unread: &[u8], place: usize, nodes: u32) -> NodeRead
     requires { ⌜ place < 2 ^ 62 ⌝ }
-    ensures { λ r. ⌜ r ≡ nodeAnswer (leafRead kind nodes place (now (s .entry))) ⌝ }
-    ensures { λ r. ⌜ nodeUsed r ≤ length (now (s .entry)) ⌝ }
+    ensures { λ r. ⌜ r ≡ nodeAnswer (leafRead kind nodes place (now (unread .entry))) ⌝ }
+    ensures { λ r. ⌜ nodeUsed r ≤ length (now (unread .entry)) ⌝ }
 {
-    let LeafAt::LeafTo(_, used) = tree_leaf::read_leaf(kind, s, place) else {
+    let LeafAt::LeafTo(_, used) = tree_leaf::read_leaf(kind, unread, place) else {
         return NodeRead::NoNode;
     };
     NodeRead::Node(used, nodes)
@@ -79,10 +79,10 @@ fn with_more(next: usize, more: ListRead) -> ListRead
 }
 
 // One node, whose kind decides what follows. The unread bytes are handed on to its children.
-pub fn node(s: &[u8], place: usize, levels: u32, nodes: u32) -> NodeRead
-    requires { ⌜ place + length (now s) < 2 ^ 62 ⌝ }
-    ensures { λ r. ⌜ r ≡ nodeAnswer (readTree levels nodes place (now (s .entry))) ⌝ }
-    ensures { λ r. ⌜ nodeUsed r ≤ length (now (s .entry)) ⌝ }
+pub fn node(unread: &[u8], place: usize, levels: u32, nodes: u32) -> NodeRead
+    requires { ⌜ place + length (now unread) < 2 ^ 62 ⌝ }
+    ensures { λ r. ⌜ r ≡ nodeAnswer (readTree levels nodes place (now (unread .entry))) ⌝ }
+    ensures { λ r. ⌜ nodeUsed r ≤ length (now (unread .entry)) ⌝ }
 {
     if levels == 0 {
         return NodeRead::NoNode;
@@ -90,64 +90,64 @@ pub fn node(s: &[u8], place: usize, levels: u32, nodes: u32) -> NodeRead
     if nodes == 0 {
         return NodeRead::NoNode;
     }
-    if s.len() < HEAD_SIZE {
+    if unread.len() < HEAD_SIZE {
         return NodeRead::NoNode;
     }
-    let kind = wire_word::word(s, 0);
+    let kind = wire_word::word(unread, 0);
     let below = levels - 1;
     let left = nodes - 1;
     if is_branch(kind) {
-        return branch(s, place, below, left);
+        return branch(unread, place, below, left);
     }
     if kind == NOT {
-        let child = &s[HEAD_SIZE..];
+        let child = &unread[HEAD_SIZE..];
         let at = place + HEAD_SIZE;
         return negated(node(child, at, below, left));
     }
-    leaf_node(kind, s, place, left)
+    leaf_node(kind, unread, place, left)
 }
 
 // An and or an or: its count of children, and its children. Which of the two it is makes no difference to what it takes.
-fn branch(s: &[u8], place: usize, levels: u32, nodes: u32) -> NodeRead
-    requires { ⌜ place + length (now s) < 2 ^ 62 ⌝ }
-    ensures { λ r. ⌜ r ≡ nodeAnswer (branchRead (readTree levels) 1 nodes place (now (s .entry))) ⌝ }
-    ensures { λ r. ⌜ nodeUsed r ≤ length (now (s .entry)) ⌝ }
+fn branch(unread: &[u8], place: usize, levels: u32, nodes: u32) -> NodeRead
+    requires { ⌜ place + length (now unread) < 2 ^ 62 ⌝ }
+    ensures { λ r. ⌜ r ≡ nodeAnswer (branchRead (readTree levels) 1 nodes place (now (unread .entry))) ⌝ }
+    ensures { λ r. ⌜ nodeUsed r ≤ length (now (unread .entry)) ⌝ }
 {
-    if s.len() < LIST_HEAD {
+    if unread.len() < LIST_HEAD {
         return NodeRead::NoNode;
     }
-    let listed = wire_word::word(s, HEAD_SIZE);
+    let listed = wire_word::word(unread, HEAD_SIZE);
     if listed == 0 {
         return NodeRead::NoNode;
     }
-    let list = &s[LIST_HEAD..];
+    let list = &unread[LIST_HEAD..];
     let at = place + LIST_HEAD;
     joined(children(list, at, listed, levels, nodes))
 }
 
 // The children that are left of a list, each after its padding.
-fn children(s: &[u8], place: usize, count: u32, levels: u32, nodes: u32) -> ListRead
-    requires { ⌜ place + length (now s) < 2 ^ 62 ⌝ }
-    ensures { λ r. ⌜ r ≡ listAnswer (readList (readTree levels) count nodes place (now (s .entry))) ⌝ }
-    ensures { λ r. ⌜ listUsed r ≤ length (now (s .entry)) ⌝ }
+fn children(unread: &[u8], place: usize, count: u32, levels: u32, nodes: u32) -> ListRead
+    requires { ⌜ place + length (now unread) < 2 ^ 62 ⌝ }
+    ensures { λ r. ⌜ r ≡ listAnswer (readList (readTree levels) count nodes place (now (unread .entry))) ⌝ }
+    ensures { λ r. ⌜ listUsed r ≤ length (now (unread .entry)) ⌝ }
 {
     if count == 0 {
         return ListRead::Children(0, nodes);
     }
     let start = tree_leaf::padding(place);
-    if s.len() < start {
+    if unread.len() < start {
         return ListRead::NoChildren;
     }
-    if !tree_leaf::zeros(s, 0, start) {
+    if !tree_leaf::zeros(unread, 0, start) {
         return ListRead::NoChildren;
     }
-    let part = &s[start..];
+    let part = &unread[start..];
     let at = place + start;
     let NodeRead::Node(used, left) = node(part, at, levels, nodes) else {
         return ListRead::NoChildren;
     };
     let next = start + used;
-    let rest = &s[next..];
+    let rest = &unread[next..];
     let after = place + next;
     let more = children(rest, after, count - 1, levels, left);
     with_more(next, more)

@@ -12,18 +12,18 @@ const SPACE: u32 = 0x0020;
 const EXACT: u32 = 0;
 
 // How many units the bytes hold.
-fn count(s: &[u8]) -> usize
-    ensures { λ r. ⌜ (r ≡ length (halves (now (s .entry)))) × (2 * r ≤ length (now (s .entry))) ⌝ }
+fn count(units: &[u8]) -> usize
+    ensures { λ r. ⌜ (r ≡ length (halves (now (units .entry)))) × (2 * r ≤ length (now (units .entry))) ⌝ }
 {
-    s.len() / 2
+    units.len() / 2
 }
 
 // The unit at an index.
-fn unit(s: &[u8], i: usize) -> u32
-    requires { ⌜ i < length (halves (now s)) ⌝ }
-    ensures { λ r. ⌜ r ≡ getD (halves (now (s .entry))) i 0 ⌝ }
+fn unit(units: &[u8], index: usize) -> u32
+    requires { ⌜ index < length (halves (now units)) ⌝ }
+    ensures { λ r. ⌜ r ≡ getD (halves (now (units .entry))) index 0 ⌝ }
 {
-    wire_word::half(s, 2 * i)
+    wire_word::half(units, 2 * index)
 }
 
 // Whether a place is the text's start or follows a space.

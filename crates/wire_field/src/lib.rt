@@ -21,29 +21,29 @@ const PROPERTY_AT: usize = KIND_AT + 4;
 const SPEC_SIZE: usize = PROPERTY_AT + 4;
 
 // Whether n bytes from a place on end within a length.
-fn room(len: usize, at: usize, n: usize) -> bool
-    ensures { λ r. ⌜ r ≡ leb (at + n) len ⌝ }
+fn room(size: usize, at: usize, count: usize) -> bool
+    ensures { λ r. ⌜ r ≡ leb (at + count) size ⌝ }
 {
-    if len < n {
+    if size < count {
         return false;
     }
-    at <= len - n
+    at <= size - count
 }
 
 // The next multiple of a unit, with zero bytes up to it.
-pub fn padded_on(m: &[u8], at: usize, unit: usize) -> PlaceRead
+pub fn padded_on(message: &[u8], at: usize, unit: usize) -> PlaceRead
     requires { ⌜ 0 < unit ⌝ }
-    ensures { λ r. ⌜ r ≡ paddedOn unit (now (m .entry)) at ⌝ }
+    ensures { λ r. ⌜ r ≡ paddedOn unit (now (message .entry)) at ⌝ }
 {
     let over = at % unit;
     let pad = (unit - over) % unit;
-    if !room(m.len(), at, pad) {
+    if !room(message.len(), at, pad) {
         return PlaceRead::Malformed;
     }
     let mut i = 0;
     while i < pad {
         let place = at + i;
-        if m[place] != 0 {
+        if message[place] != 0 {
             return PlaceRead::Malformed;
         }
         i += 1;
@@ -53,30 +53,30 @@ pub fn padded_on(m: &[u8], at: usize, unit: usize) -> PlaceRead
 }
 
 // A number of two or four bytes.
-pub fn number_on(m: &[u8], at: usize, n: usize) -> NumberRead
-    requires { ⌜ (2 ≤ n) × (n ≤ 4) × (n % 2 ≡ 0) ⌝ }
-    ensures { λ r. ⌜ r ≡ numberOn n (now (m .entry)) at ⌝ }
+pub fn number_on(message: &[u8], at: usize, width: usize) -> NumberRead
+    requires { ⌜ (2 ≤ width) × (width ≤ 4) × (width % 2 ≡ 0) ⌝ }
+    ensures { λ r. ⌜ r ≡ numberOn width (now (message .entry)) at ⌝ }
 {
-    if !room(m.len(), at, n) {
+    if !room(message.len(), at, width) {
         return NumberRead::Malformed;
     }
-    let next = at + n;
-    if n == 2 {
-        let v = wire_word::half(m, at);
+    let next = at + width;
+    if width == 2 {
+        let v = wire_word::half(message, at);
         return NumberRead::Number(v, next);
     }
-    let v = wire_word::word(m, at);
+    let v = wire_word::word(message, at);
     NumberRead::Number(v, next)
 }
 
 // A used flag.
-pub fn flag_on(m: &[u8], at: usize) -> NumberRead
-    ensures { λ r. ⌜ r ≡ flagOn (now (m .entry)) at ⌝ }
+pub fn flag_on(message: &[u8], at: usize) -> NumberRead
+    ensures { λ r. ⌜ r ≡ flagOn (now (message .entry)) at ⌝ }
 {
-    if !room(m.len(), at, 1) {
+    if !room(message.len(), at, 1) {
         return NumberRead::Malformed;
     }
-    let flag = m[at] as u32;
+    let flag = message[at] as u32;
     if 1 < flag {
         return NumberRead::Malformed;
     }
@@ -85,14 +85,14 @@ pub fn flag_on(m: &[u8], at: usize) -> NumberRead
 }
 
 // Whether the sixteen bytes at a place are our set identifier.
-fn set_ours(m: &[u8], at: usize) -> bool
-    requires { ⌜ at + setSize ≤ length (now m) ⌝ }
-    ensures { λ r. ⌜ r ≡ setOurs (now (m .entry)) at ⌝ }
+fn set_ours(message: &[u8], at: usize) -> bool
+    requires { ⌜ at + setSize ≤ length (now message) ⌝ }
+    ensures { λ r. ⌜ r ≡ setOurs (now (message .entry)) at ⌝ }
 {
     let mut i = 0;
     while i < SET_SIZE {
         let place = at + i;
-        let byte = m[place] as usize;
+        let byte = message[place] as usize;
         if byte != SET_FIRST + i {
             return false;
         }
@@ -102,20 +102,20 @@ fn set_ours(m: &[u8], at: usize) -> bool
 }
 
 // The property of a column, 0 where it is of another set.
-pub fn property_on(m: &[u8], at: usize) -> NumberRead
-    ensures { λ r. ⌜ r ≡ propertyOn (now (m .entry)) at ⌝ }
+pub fn property_on(message: &[u8], at: usize) -> NumberRead
+    ensures { λ r. ⌜ r ≡ propertyOn (now (message .entry)) at ⌝ }
 {
-    if !room(m.len(), at, SPEC_SIZE) {
+    if !room(message.len(), at, SPEC_SIZE) {
         return NumberRead::Malformed;
     }
     let next = at + SPEC_SIZE;
-    let kind = wire_word::word(m, at + KIND_AT);
+    let kind = wire_word::word(message, at + KIND_AT);
     if kind != NUMBERED {
         return NumberRead::Malformed;
     }
-    if !set_ours(m, at) {
+    if !set_ours(message, at) {
         return NumberRead::Number(0, next);
     }
-    let property = wire_word::word(m, at + PROPERTY_AT);
+    let property = wire_word::word(message, at + PROPERTY_AT);
     NumberRead::Number(property, next)
 }

@@ -5,20 +5,20 @@ ghost use lib.ListN.{length, getD};
 ghost use Rattle.wire.specs.Word.{numberAt};
 
 // A byte as a wider number.
-fn byte(s: &[u8], at: usize) -> u32
-    requires { ⌜ at < length (now s) ⌝ }
-    ensures { λ r. ⌜ (r ≡ getD (now (s .entry)) at 0) × (r < 256) ⌝ }
+fn byte(bytes: &[u8], at: usize) -> u32
+    requires { ⌜ at < length (now bytes) ⌝ }
+    ensures { λ r. ⌜ (r ≡ getD (now (bytes .entry)) at 0) × (r < 256) ⌝ }
 {
-    s[at] as u32
+    bytes[at] as u32
 }
 
 // The 16-bit word at a place.
-pub fn half(s: &[u8], at: usize) -> u32
-    requires { ⌜ at + 2 ≤ length (now s) ⌝ }
-    ensures { λ r. ⌜ r ≡ numberAt 2 (now (s .entry)) at ⌝ }
+pub fn half(bytes: &[u8], at: usize) -> u32
+    requires { ⌜ at + 2 ≤ length (now bytes) ⌝ }
+    ensures { λ r. ⌜ r ≡ numberAt 2 (now (bytes .entry)) at ⌝ }
 {
-    let low = byte(s, at);
-    let high = byte(s, at + 1);
+    let low = byte(bytes, at);
+    let high = byte(bytes, at + 1);
     low + high * 256
 }
 
@@ -31,35 +31,35 @@ fn joined(a: u32, b: u32, c: u32, d: u32) -> u32
 }
 
 // The 32-bit word at a place.
-pub fn word(s: &[u8], at: usize) -> u32
-    requires { ⌜ at + 4 ≤ length (now s) ⌝ }
-    ensures { λ r. ⌜ r ≡ numberAt 4 (now (s .entry)) at ⌝ }
+pub fn word(bytes: &[u8], at: usize) -> u32
+    requires { ⌜ at + 4 ≤ length (now bytes) ⌝ }
+    ensures { λ r. ⌜ r ≡ numberAt 4 (now (bytes .entry)) at ⌝ }
 {
-    let a = byte(s, at);
-    let b = byte(s, at + 1);
-    let c = byte(s, at + 2);
-    let d = byte(s, at + 3);
+    let a = byte(bytes, at);
+    let b = byte(bytes, at + 1);
+    let c = byte(bytes, at + 2);
+    let d = byte(bytes, at + 3);
     joined(a, b, c, d)
 }
 
 // A byte, or zero past the end.
-fn byte_or_zero(s: &[u8], at: usize) -> u32
-    ensures { λ r. ⌜ (r ≡ getD (now (s .entry)) at 0) × (r < 256) ⌝ }
+fn byte_or_zero(bytes: &[u8], at: usize) -> u32
+    ensures { λ r. ⌜ (r ≡ getD (now (bytes .entry)) at 0) × (r < 256) ⌝ }
 {
-    if at < s.len() {
-        return byte(s, at);
+    if at < bytes.len() {
+        return byte(bytes, at);
     }
     0
 }
 
 // The last word, which may be short: bytes past the end count as zero.
-pub fn last_word(s: &[u8], at: usize) -> u32
-    requires { ⌜ at ≤ length (now s) ⌝ }
-    ensures { λ r. ⌜ r ≡ numberAt 4 (now (s .entry)) at ⌝ }
+pub fn last_word(bytes: &[u8], at: usize) -> u32
+    requires { ⌜ at ≤ length (now bytes) ⌝ }
+    ensures { λ r. ⌜ r ≡ numberAt 4 (now (bytes .entry)) at ⌝ }
 {
-    let a = byte_or_zero(s, at);
-    let b = byte_or_zero(s, at + 1);
-    let c = byte_or_zero(s, at + 2);
-    let d = byte_or_zero(s, at + 3);
+    let a = byte_or_zero(bytes, at);
+    let b = byte_or_zero(bytes, at + 1);
+    let c = byte_or_zero(bytes, at + 2);
+    let d = byte_or_zero(bytes, at + 3);
     joined(a, b, c, d)
 }

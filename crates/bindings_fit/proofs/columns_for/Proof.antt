@@ -38,7 +38,7 @@ returns-3 c =
     rw (
       sym (c .before .before .before .before .before .columns-fit .ensures) ∙ not-false _ (c .before .before .before .before .if1 .left),
       sym (c .before .before .before .bound-once .ensures) ∙ not-false _ (c .before .before .if2 .left),
-      spans-by-index (a .count) 0 (a .words .now),
+      spans-by-index (a .count) 0 (a .records .now),
       sym (c .before .all-inside .ensures) ∙ not-true _ (c .if3 .taken),
     )
 
@@ -52,7 +52,7 @@ returns-4 c =
     rw (
       sym (c .before .before .before .before .before .before .columns-fit .ensures) ∙ not-false _ (c .before .before .before .before .before .if1 .left),
       sym (c .before .before .before .before .bound-once .ensures) ∙ not-false _ (c .before .before .before .if2 .left),
-      spans-by-index (a .count) 0 (a .words .now),
+      spans-by-index (a .count) 0 (a .records .now),
       sym (c .before .before .all-inside .ensures) ∙ not-false _ (c .before .if3 .left),
     ) (c .none-meet .ensures)
 

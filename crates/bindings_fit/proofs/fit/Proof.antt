@@ -15,7 +15,7 @@ within-requires c κs = search needs
 returns : tie.Need-returns
 unfolding fit
 returns c = let a = c .before .before .before .args in
-    rw (from-length (a .count) 0 (a .words .now), sym (c .before .within .ensures) ∙ not-true _ (c .if1 .taken))
+    rw (from-length (a .count) 0 (a .records .now), sym (c .before .within .ensures) ∙ not-true _ (c .if1 .taken))
 
 within-requires-2 : tie.Need-within-requires-2
 within-requires-2 c κs = search needs
@@ -25,7 +25,7 @@ unfolding fit
 returns-2 c =
     let a = c .before .before .before .before .before .args in
     rw (
-      from-length (a .count) 0 (a .words .now),
+      from-length (a .count) 0 (a .records .now),
       sym (c .before .before .before .within .ensures) ∙ not-false _ (c .before .before .if1 .left),
       sym (c .before .within2 .ensures) ∙ not-true _ (c .if2 .taken),
     )
@@ -42,7 +42,7 @@ unfolding fit
 returns-3 c =
     let a = c .before .before .before .before .before .before .args in
     rw (
-      from-length (a .count) 0 (a .words .now),
+      from-length (a .count) 0 (a .records .now),
       sym (c .before .before .before .before .within .ensures) ∙ not-false _ (c .before .before .before .if1 .left),
       sym (c .before .before .within2 .ensures) ∙ not-false _ (c .before .if2 .left),
     ) (c .columns-for .ensures)

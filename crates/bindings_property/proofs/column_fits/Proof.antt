@@ -48,24 +48,24 @@ within-requires c κs = search needs
 
 returns : tie.Need-returns
 returns c = let a = c .before .before .before .before .before .before .before .args in
-    sym (fits-unknown (columnAt (a .words .now) (a .k)) (sym (c .before .within .ensures) ∙ not-true _ (c .if1 .taken)))
+    sym (fits-unknown (columnAt (a .records .now) (a .index)) (sym (c .before .within .ensures) ∙ not-true _ (c .if1 .taken)))
 
 cell-size-requires : tie.Need-cell-size-requires
 cell-size-requires c κs = search needs
 
 returns-2 : tie.Need-returns-2
 returns-2 c = let a = c .before .before .before .before .before .before .before .before .before .args in
-    sym (fits-no-type (columnAt (a .words .now) (a .k)) (c .before .cell-size .result) (c .before .cell-size .ensures)
+    sym (fits-no-type (columnAt (a .records .now) (a .index)) (c .before .cell-size .result) (c .before .cell-size .ensures)
     (sym (c .before .before .before .within .ensures) ∙ not-false _ (c .before .before .if1 .left)) (c .if2 .taken))
 
 returns-3 : tie.Need-returns-3
 returns-3 c = let a = c .before .before .before .before .before .before .before .before .before .before .args in
-    sym (fits-unused (columnAt (a .words .now) (a .k)) (c .before .before .cell-size .result) (c .before .before .cell-size .ensures)
+    sym (fits-unused (columnAt (a .records .now) (a .index)) (c .before .before .cell-size .result) (c .before .before .cell-size .ensures)
     (sym (c .before .before .before .before .within .ensures) ∙ not-false _ (c .before .before .before .if1 .left)) (c .before .if2 .left) (c .if3 .taken))
 
 returns-4 : tie.Need-returns-4
 returns-4 c = let a = c .before .before .before .before .before .before .before .before .before .before .args in
-    sym (fits-used (columnAt (a .words .now) (a .k)) (c .before .before .cell-size .result) (c .before .before .cell-size .ensures)
+    sym (fits-used (columnAt (a .records .now) (a .index)) (c .before .before .cell-size .result) (c .before .before .cell-size .ensures)
     (sym (c .before .before .before .before .within .ensures) ∙ not-false _ (c .before .before .before .if1 .left)) (c .before .if2 .left) (c .if3 .left))
 
 pub column-fits-spec : {M : Type 1} → statement M

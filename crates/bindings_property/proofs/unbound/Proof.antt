@@ -37,8 +37,8 @@ returns : tie.Need-returns Inv-loop μ-loop
 returns c = let l = c .before .before .before .loop in
     let a = c .before .before .before .before .args in
     sym (l .inv .1
-    ∙ every-stop (unlike (a .property)) (from-more (l .left) (l .k) (a .words .now) (c .before .before .loop-test .taken))
-    (rw (eq-eqb (a .property) (getD (a .words .now) (9 * l .k) 0) (sym (c .if1 .taken)))))
+    ∙ every-stop (unlike (a .property)) (from-more (l .left) (l .k) (a .records .now) (c .before .before .loop-test .taken))
+    (rw (eq-eqb (a .property) (getD (a .records .now) (9 * l .k) 0) (sym (c .if1 .taken)))))
 
 add-k : tie.Need-add-k Inv-loop μ-loop
 add-k c = search needs
@@ -54,14 +54,14 @@ loop-again c = let l = c .before .before .before .loop in
     let a = c .before .before .before .before .args in (
       omega arith,
       l .inv .1
-          ∙ every-more (unlike (a .property)) (from-more (l .left) (l .k) (a .words .now) (c .before .before .loop-test .taken))
-          (rw (ne-eqb (a .property) (getD (a .words .now) (9 * l .k) 0) (λ e. c .if1 .left (sym e)))),
+          ∙ every-more (unlike (a .property)) (from-more (l .left) (l .k) (a .records .now) (c .before .before .loop-test .taken))
+          (rw (ne-eqb (a .property) (getD (a .records .now) (9 * l .k) 0) (λ e. c .if1 .left (sym e)))),
     )
 
 returns-2 : tie.Need-returns-2 Inv-loop μ-loop
 returns-2 c = let l = c .before .loop in
     let a = c .before .before .args in
-    sym (l .inv .1 ∙ every-none (unlike (a .property)) (from-none (l .left) (l .k) (a .words .now) (omega arith)))
+    sym (l .inv .1 ∙ every-none (unlike (a .property)) (from-none (l .left) (l .k) (a .records .now) (omega arith)))
 
 pub unbound-spec : {M : Type 1} → statement M
 unbound-spec =

@@ -16,7 +16,7 @@ same-length : tie.Need-same-length
 same-length c = search needs
 
 returns : tie.Need-returns
-returns c = told-short (c .before .before .before .before .before .before .before .before .args .m .now) (c .refused .result) (c .before .before .before .before .clear .last .0) (c .refused .ensures) (c .before .before .before .before .clear .ensures) (c .before .if1 .taken)
+returns c = told-short (c .before .before .before .before .before .before .before .before .args .message .now) (c .refused .result) (c .before .before .before .before .clear .last .0) (c .refused .ensures) (c .before .before .before .before .clear .ensures) (c .before .if1 .taken)
 
 word-requires : tie.Need-word-requires
 word-requires c κs = search needs
@@ -35,7 +35,7 @@ same-length-2 c = search needs
 
 returns-2 : tie.Need-returns-2
 returns-2 c =
-    told-described (c .before .before .before .before .before .before .before .before .before .before .args .m .now) (c .refused2 .result) (c .before .before .before .before .before .before .clear .last .0) (c .refused2 .ensures) (c .before .before .before .before .before .before .clear .ensures)
+    told-described (c .before .before .before .before .before .before .before .before .before .before .args .message .now) (c .refused2 .result) (c .before .before .before .before .before .before .clear .last .0) (c .refused2 .ensures) (c .before .before .before .before .before .before .clear .ensures)
     (c .before .before .before .if1 .left)
     (λ e. c .before .if2 .taken (c .before .before .word .ensures ∙ e))
 
@@ -57,7 +57,7 @@ same-length-3 c = search needs
 returns-3 : tie.Need-returns-3
 returns-3 c =
     let r = c .before .before .before .before .before .before .before .before in
-    told-columns (r .before .before .before .before .before .before .before .before .before .before .before .before .args .m .now) (c .refused3 .result) (c .before .before .before .clear2 .last .0) (c .refused3 .ensures) (c .before .before .before .clear2 .ensures)
+    told-columns (r .before .before .before .before .before .before .before .before .before .before .before .before .args .message .now) (c .refused3 .result) (c .before .before .before .clear2 .last .0) (c .refused3 .ensures) (c .before .before .before .clear2 .ensures)
     (r .before .before .before .before .before .if1 .left)
     (sym (r .before .before .before .before .word .ensures) ∙ r .before .before .before .if2 .left)
     (r .before .before .word2 .result)
@@ -80,7 +80,7 @@ same-length-4 c = search needs
 returns-4 : tie.Need-returns-4
 returns-4 c =
     let r = c .before .before .before .before .before in
-    told-some (r .before .before .before .before .before .before .before .before .before .before .before .before .args .m .now) (c .before .word3 .result) (c .word4 .result) (r .before .before .word2 .result) (r .before .before .before .before .before .before .before .before .clear .last .0) (r .read-columns .last .1 .1 .0)
+    told-some (r .before .before .before .before .before .before .before .before .before .before .before .before .args .message .now) (c .before .word3 .result) (c .word4 .result) (r .before .before .word2 .result) (r .before .before .before .before .before .before .before .before .clear .last .0) (r .read-columns .last .1 .1 .0)
     (r .before .before .before .before .before .if1 .left)
     (sym (r .before .before .before .before .word .ensures) ∙ r .before .before .before .if2 .left)
     (c .before .word3 .ensures)

@@ -34,10 +34,10 @@ same-length c = omega (arith, c .before .before .before .before .loop .inv .1, c
 returns : tie.Need-returns Inv-loop μ-loop
 returns c =
     let l = c .before .before .before .before .loop in
-    let m = c .before .before .before .before .before .before .before .args .m .now in
+    let m = c .before .before .before .before .before .before .before .args .message .now in
     sym
     (l .inv .2
-    ∙ ap (keeping (l .k) (l .words))
+    ∙ ap (keeping (l .k) (l .records))
     (columns-unpadded (l .left) m (l .at) (c .before .before .before .loop-test .taken) (sym (c .before .before .padded-on .ensures) ∙ c .enum-told .given .1)))
 
 column-on-requires : tie.Need-column-on-requires Inv-loop μ-loop
@@ -55,10 +55,10 @@ same-length-2 c = omega (arith, c .before .before .before .before .before .befor
 returns-2 : tie.Need-returns-2 Inv-loop μ-loop
 returns-2 c =
     let l = c .before .before .before .before .before .before .before .before .loop in
-    let m = c .before .before .before .before .before .before .before .before .before .before .before .args .m .now in
+    let m = c .before .before .before .before .before .before .before .before .before .before .before .args .message .now in
     sym
     (l .inv .2
-    ∙ ap (keeping (l .k) (l .words))
+    ∙ ap (keeping (l .k) (l .records))
     (columns-broken (l .left) m (l .at) (c .before .before .before .before .before .before .before .loop-test .taken) (c .before .before .before .before .place .given .0 .0)
     (sym (c .before .before .before .before .before .before .padded-on .ensures) ∙ c .before .before .before .before .place .given .1)
     (sym (c .before .before .column-on .ensures) ∙ c .enum-told2 .given .1)))
@@ -78,18 +78,18 @@ loop-less c = omega (arith, c .before .before .before .before .before .before .b
 loop-again : tie.Need-loop-again Inv-loop μ-loop
 loop-again c =
     let l = c .before .before .before .before .before .before .before .before .before .before .before .before .before .loop in
-    let m = c .before .before .before .before .before .before .before .before .before .before .before .before .before .before .before .before .args .m .now in
+    let m = c .before .before .before .before .before .before .before .before .before .before .before .before .before .before .before .before .args .message .now in
     let next = c .before .before .before .before .before .column .given .0 .1 .0 in
     let col = c .before .before .before .before .before .column .given .0 .0 in (
       omega (arith, l .inv .0, c .before .before .before .before .before .before .before .before .before .before .before .before .loop-test .taken),
       c .before .before .keep .kept .0 ∙ l .inv .1,
       l .inv .2
-          ∙ ap (keeping (l .k) (l .words))
+          ∙ ap (keeping (l .k) (l .records))
           (columns-more (l .left) m (l .at) (c .before .before .before .before .before .before .before .before .before .before .before .before .loop-test .taken) (c .before .before .before .before .before .before .before .before .before .place .given .0 .0)
           (sym (c .before .before .before .before .before .before .before .before .before .before .before .padded-on .ensures) ∙ c .before .before .before .before .before .before .before .before .before .place .given .1)
           col next
           (sym (c .before .before .before .before .before .before .before .column-on .ensures) ∙ c .before .before .before .before .before .column .given .1))
-          ∙ keeping-more (l .k) (l .words) col (columnsOn (l .left - 1) m next)
+          ∙ keeping-more (l .k) (l .records) col (columnsOn (l .left - 1) m next)
           ∙ ap (λ (w : List ℕ). keeping (l .k + 1) w (columnsOn (l .left - 1) m next)) (sym (c .before .before .keep .ensures)),
     )
 
@@ -97,8 +97,8 @@ same-length-3 : tie.Need-same-length-3 Inv-loop μ-loop
 same-length-3 c = omega (arith, c .before .loop .inv .1, c .before .before .before .before .pre)
 
 returns-3 : tie.Need-returns-3 Inv-loop μ-loop
-returns-3 c = let l = c .before .loop in let m = c .before .before .before .before .args .m .now in
-    sym (l .inv .2 ∙ keeping-end (l .k) (l .words) (l .left) m (l .at) (omega arith))
+returns-3 c = let l = c .before .loop in let m = c .before .before .before .before .args .message .now in
+    sym (l .inv .2 ∙ keeping-end (l .k) (l .records) (l .left) m (l .at) (omega arith))
 
 pub read-columns-spec : {M : Type 1} → statement M
 read-columns-spec =

@@ -18,11 +18,11 @@ abbrev μ-loop : tie.MeasureT-loop
 loop-holds : tie.Need-loop-holds Inv-loop μ-loop
 loop-holds c = (refl, search needs, refl)
 
-mul-words : tie.Need-mul-words Inv-loop μ-loop
-mul-words c = search needs
+mul-records : tie.Need-mul-records Inv-loop μ-loop
+mul-records c = search needs
 
-slice-write-words : tie.Need-slice-write-words Inv-loop μ-loop
-slice-write-words c = search needs
+slice-write-records : tie.Need-slice-write-records Inv-loop μ-loop
+slice-write-records c = search needs
 
 add-i : tie.Need-add-i Inv-loop μ-loop
 add-i c = search needs
@@ -31,14 +31,14 @@ loop-less : tie.Need-loop-less Inv-loop μ-loop
 loop-less c = search needs
 
 loop-again : tie.Need-loop-again Inv-loop μ-loop
-loop-again c = let l = c .before .loop in let w = c .before .before .args .words .now in
+loop-again c = let l = c .before .loop in let w = c .before .before .args .records .now in
     (simp length-set (l .inv .0), omega arith, rw (l .inv .2) (fill-more (l .i) 0 w (omega arith)))
 
 same-length : tie.Need-same-length Inv-loop μ-loop
 same-length c = c .before .loop .inv .0
 
 returns : tie.Need-returns Inv-loop μ-loop
-returns c = let l = c .before .loop in let w = c .before .before .args .words .now in
+returns c = let l = c .before .loop in let w = c .before .before .args .records .now in
     let z : l .i ≡ 45 = omega arith in
     l .inv .2 ∙ rw (z, drop-of-length-le w {i = 45} (omega arith)) (append-nil (replicate 45 0))
 
@@ -49,8 +49,8 @@ clear-spec =
     Inv-loop
     μ-loop
     loop-holds
-    mul-words
-    slice-write-words
+    mul-records
+    slice-write-records
     add-i
     loop-less
     loop-again

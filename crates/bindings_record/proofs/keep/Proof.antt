@@ -17,83 +17,83 @@ returns c = simp (le-ltb _ _ (c .if1 .taken))
 mul-at : tie.Need-mul-at
 mul-at c = search needs
 
-mul-words : tie.Need-mul-words
-mul-words c = search needs
+mul-records : tie.Need-mul-records
+mul-records c = search needs
 
-slice-write-words : tie.Need-slice-write-words
-slice-write-words c = search needs
+slice-write-records : tie.Need-slice-write-records
+slice-write-records c = search needs
 
-add-words : tie.Need-add-words
-add-words c = search needs
+add-records : tie.Need-add-records
+add-records c = search needs
 
-mul-words-2 : tie.Need-mul-words-2
-mul-words-2 c = search needs
+mul-records-2 : tie.Need-mul-records-2
+mul-records-2 c = search needs
 
-slice-write-words-2 : tie.Need-slice-write-words-2
-slice-write-words-2 c = simp length-set (omega arith)
+slice-write-records-2 : tie.Need-slice-write-records-2
+slice-write-records-2 c = simp length-set (omega arith)
 
-add-words-2 : tie.Need-add-words-2
-add-words-2 c = search needs
+add-records-2 : tie.Need-add-records-2
+add-records-2 c = search needs
 
-mul-words-3 : tie.Need-mul-words-3
-mul-words-3 c = search needs
+mul-records-3 : tie.Need-mul-records-3
+mul-records-3 c = search needs
 
-slice-write-words-3 : tie.Need-slice-write-words-3
-slice-write-words-3 c = simp length-set (omega arith)
+slice-write-records-3 : tie.Need-slice-write-records-3
+slice-write-records-3 c = simp length-set (omega arith)
 
-add-words-3 : tie.Need-add-words-3
-add-words-3 c = search needs
+add-records-3 : tie.Need-add-records-3
+add-records-3 c = search needs
 
-mul-words-4 : tie.Need-mul-words-4
-mul-words-4 c = search needs
+mul-records-4 : tie.Need-mul-records-4
+mul-records-4 c = search needs
 
-slice-write-words-4 : tie.Need-slice-write-words-4
-slice-write-words-4 c = simp length-set (omega arith)
+slice-write-records-4 : tie.Need-slice-write-records-4
+slice-write-records-4 c = simp length-set (omega arith)
 
-add-words-4 : tie.Need-add-words-4
-add-words-4 c = search needs
+add-records-4 : tie.Need-add-records-4
+add-records-4 c = search needs
 
-mul-words-5 : tie.Need-mul-words-5
-mul-words-5 c = search needs
+mul-records-5 : tie.Need-mul-records-5
+mul-records-5 c = search needs
 
-slice-write-words-5 : tie.Need-slice-write-words-5
-slice-write-words-5 c = simp length-set (omega arith)
+slice-write-records-5 : tie.Need-slice-write-records-5
+slice-write-records-5 c = simp length-set (omega arith)
 
-add-words-5 : tie.Need-add-words-5
-add-words-5 c = search needs
+add-records-5 : tie.Need-add-records-5
+add-records-5 c = search needs
 
-mul-words-6 : tie.Need-mul-words-6
-mul-words-6 c = search needs
+mul-records-6 : tie.Need-mul-records-6
+mul-records-6 c = search needs
 
-slice-write-words-6 : tie.Need-slice-write-words-6
-slice-write-words-6 c = simp length-set (omega arith)
+slice-write-records-6 : tie.Need-slice-write-records-6
+slice-write-records-6 c = simp length-set (omega arith)
 
-add-words-6 : tie.Need-add-words-6
-add-words-6 c = search needs
+add-records-6 : tie.Need-add-records-6
+add-records-6 c = search needs
 
-mul-words-7 : tie.Need-mul-words-7
-mul-words-7 c = search needs
+mul-records-7 : tie.Need-mul-records-7
+mul-records-7 c = search needs
 
-slice-write-words-7 : tie.Need-slice-write-words-7
-slice-write-words-7 c = simp length-set (omega arith)
+slice-write-records-7 : tie.Need-slice-write-records-7
+slice-write-records-7 c = simp length-set (omega arith)
 
-add-words-7 : tie.Need-add-words-7
-add-words-7 c = search needs
+add-records-7 : tie.Need-add-records-7
+add-records-7 c = search needs
 
-mul-words-8 : tie.Need-mul-words-8
-mul-words-8 c = search needs
+mul-records-8 : tie.Need-mul-records-8
+mul-records-8 c = search needs
 
-slice-write-words-8 : tie.Need-slice-write-words-8
-slice-write-words-8 c = simp length-set (omega arith)
+slice-write-records-8 : tie.Need-slice-write-records-8
+slice-write-records-8 c = simp length-set (omega arith)
 
-add-words-8 : tie.Need-add-words-8
-add-words-8 c = search needs
+add-records-8 : tie.Need-add-records-8
+add-records-8 c = search needs
 
-mul-words-9 : tie.Need-mul-words-9
-mul-words-9 c = search needs
+mul-records-9 : tie.Need-mul-records-9
+mul-records-9 c = search needs
 
-slice-write-words-9 : tie.Need-slice-write-words-9
-slice-write-words-9 c = simp length-set (omega arith)
+slice-write-records-9 : tie.Need-slice-write-records-9
+slice-write-records-9 c = simp length-set (omega arith)
 
 same-length : tie.Need-same-length
 same-length c = simp length-set
@@ -101,9 +101,9 @@ same-length c = simp length-set
 returns-2 : tie.Need-returns-2
 returns-2 c =
     let a = c .before .args in
-    let d = a .c in
-    rw (lt-ltb (a .k) 5 (c .if1 .left))
-    (nine-stores (a .words .now) (9 * a .k) (d .property) (d .vtype)
+    let d = a .column in
+    rw (lt-ltb (a .index) 5 (c .if1 .left))
+    (nine-stores (a .records .now) (9 * a .index) (d .property) (d .vtype)
     (d .value .used) (d .value .offset) (d .value .size)
     (d .status .used) (d .status .offset)
     (d .length .used) (d .length .offset)
@@ -116,31 +116,31 @@ keep-spec =
     cast-if1
     returns
     mul-at
-    mul-words
-    slice-write-words
-    add-words
-    mul-words-2
-    slice-write-words-2
-    add-words-2
-    mul-words-3
-    slice-write-words-3
-    add-words-3
-    mul-words-4
-    slice-write-words-4
-    add-words-4
-    mul-words-5
-    slice-write-words-5
-    add-words-5
-    mul-words-6
-    slice-write-words-6
-    add-words-6
-    mul-words-7
-    slice-write-words-7
-    add-words-7
-    mul-words-8
-    slice-write-words-8
-    add-words-8
-    mul-words-9
-    slice-write-words-9
+    mul-records
+    slice-write-records
+    add-records
+    mul-records-2
+    slice-write-records-2
+    add-records-2
+    mul-records-3
+    slice-write-records-3
+    add-records-3
+    mul-records-4
+    slice-write-records-4
+    add-records-4
+    mul-records-5
+    slice-write-records-5
+    add-records-5
+    mul-records-6
+    slice-write-records-6
+    add-records-6
+    mul-records-7
+    slice-write-records-7
+    add-records-7
+    mul-records-8
+    slice-write-records-8
+    add-records-8
+    mul-records-9
+    slice-write-records-9
     same-length
     returns-2)

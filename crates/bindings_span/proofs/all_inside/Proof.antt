@@ -31,7 +31,7 @@ returns : tie.Need-returns Inv-loop μ-loop
 returns c = let l = c .before .before .before .before .loop in
     let a = c .before .before .before .before .before .before .args in
     let s = c .before .before .span-at .result in
-    sym (l .inv .1 ∙ each-stop (l .left) (l .i) (a .words .now) (c .before .before .before .loop-test .taken) (inside (a .width)) (inside-none (a .width))
+    sym (l .inv .1 ∙ each-stop (l .left) (l .i) (a .records .now) (c .before .before .before .loop-test .taken) (inside (a .width)) (inside-none (a .width))
     (sym (ap (inside (a .width)) (c .before .before .span-at .ensures)) ∙ lt-leb (s .place + s .size) (a .width) (omega arith)))
 
 add-i : tie.Need-add-i Inv-loop μ-loop
@@ -48,14 +48,14 @@ loop-again c = let l = c .before .before .before .before .loop in
     let a = c .before .before .before .before .before .before .args in
     let s = c .before .before .span-at .result in (
       omega arith,
-      l .inv .1 ∙ each-more (l .left) (l .i) (a .words .now) (c .before .before .before .loop-test .taken) (inside (a .width)) (inside-none (a .width))
+      l .inv .1 ∙ each-more (l .left) (l .i) (a .records .now) (c .before .before .before .loop-test .taken) (inside (a .width)) (inside-none (a .width))
           (sym (ap (inside (a .width)) (c .before .before .span-at .ensures)) ∙ le-leb (s .place + s .size) (a .width) (omega arith)),
     )
 
 returns-2 : tie.Need-returns-2 Inv-loop μ-loop
 returns-2 c = let l = c .before .loop in
     let a = c .before .before .before .args in
-    sym (l .inv .1 ∙ every-none (inside (a .width)) (spans-none (l .left) (l .i) (a .words .now) (omega arith)))
+    sym (l .inv .1 ∙ every-none (inside (a .width)) (spans-none (l .left) (l .i) (a .records .now) (omega arith)))
 
 pub all-inside-spec : {M : Type 1} → statement M
 all-inside-spec =

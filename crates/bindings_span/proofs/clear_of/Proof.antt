@@ -30,8 +30,8 @@ apart-requires c κs = search needs
 returns : tie.Need-returns Inv-loop μ-loop
 returns c = let l = c .before .before .before .before .loop in
     let a = c .before .before .before .before .before .before .args in
-    sym (l .inv .1 ∙ each-stop (l .left) (l .i) (a .words .now) (c .before .before .before .loop-test .taken) (apart (a .a)) (apart-none (a .a))
-    (sym (c .before .apart .ensures ∙ ap (apart (a .a)) (c .before .before .span-at .ensures)) ∙ not-true _ (c .if1 .taken)))
+    sym (l .inv .1 ∙ each-stop (l .left) (l .i) (a .records .now) (c .before .before .before .loop-test .taken) (apart (a .span)) (apart-none (a .span))
+    (sym (c .before .apart .ensures ∙ ap (apart (a .span)) (c .before .before .span-at .ensures)) ∙ not-true _ (c .if1 .taken)))
 
 add-i : tie.Need-add-i Inv-loop μ-loop
 add-i c = search needs
@@ -46,14 +46,14 @@ loop-again : tie.Need-loop-again Inv-loop μ-loop
 loop-again c = let l = c .before .before .before .before .loop in
     let a = c .before .before .before .before .before .before .args in (
       omega arith,
-      l .inv .1 ∙ each-more (l .left) (l .i) (a .words .now) (c .before .before .before .loop-test .taken) (apart (a .a)) (apart-none (a .a))
-          (sym (c .before .apart .ensures ∙ ap (apart (a .a)) (c .before .before .span-at .ensures)) ∙ not-false _ (c .if1 .left)),
+      l .inv .1 ∙ each-more (l .left) (l .i) (a .records .now) (c .before .before .before .loop-test .taken) (apart (a .span)) (apart-none (a .span))
+          (sym (c .before .apart .ensures ∙ ap (apart (a .span)) (c .before .before .span-at .ensures)) ∙ not-false _ (c .if1 .left)),
     )
 
 returns-2 : tie.Need-returns-2 Inv-loop μ-loop
 returns-2 c = let l = c .before .loop in
     let a = c .before .before .before .args in
-    sym (l .inv .1 ∙ every-none (apart (a .a)) (spans-none (l .left) (l .i) (a .words .now) (omega arith)))
+    sym (l .inv .1 ∙ every-none (apart (a .span)) (spans-none (l .left) (l .i) (a .records .now) (omega arith)))
 
 pub clear-of-spec : {M : Type 1} → statement M
 clear-of-spec =

@@ -36,7 +36,7 @@ clear-of-requires c κs = search needs
 
 returns : tie.Need-returns Inv-loop μ-loop
 returns c = let l = c .before .before .before .before .loop in
-    let words = c .before .before .before .before .before .before .args .words .now in
+    let words = c .before .before .before .before .before .before .args .records .now in
     sym (l .inv .1 ∙ two-stop (l .left) (l .i) words (c .before .before .before .loop-test .taken)
     (sym (ap (λ (a : Span). every (apart a) (spansFrom (l .left - 1) (l .i + 1) words)) (c .before .before .span-at .ensures))
     ∙ sym (c .before .clear-of .ensures) ∙ not-true _ (c .if1 .taken)))
@@ -46,7 +46,7 @@ loop-less c = search needs
 
 loop-again : tie.Need-loop-again Inv-loop μ-loop
 loop-again c = let l = c .before .before .before .before .loop in
-    let words = c .before .before .before .before .before .before .args .words .now in (
+    let words = c .before .before .before .before .before .before .args .records .now in (
       omega arith,
       l .inv .1 ∙ two-more (l .left) (l .i) words (c .before .before .before .loop-test .taken)
           (rw (← c .before .before .span-at .ensures) (sym (c .before .clear-of .ensures) ∙ not-false _ (c .if1 .left))),
@@ -54,7 +54,7 @@ loop-again c = let l = c .before .before .before .before .loop in
 
 returns-2 : tie.Need-returns-2 Inv-loop μ-loop
 returns-2 c = let l = c .before .loop in
-    let words = c .before .before .before .args .words .now in
+    let words = c .before .before .before .args .records .now in
     sym (l .inv .1 ∙ pair-none apart (spans-none (l .left) (l .i) words (omega arith)))
 
 pub none-meet-spec : {M : Type 1} → statement M

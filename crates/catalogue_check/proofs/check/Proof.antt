@@ -10,7 +10,7 @@ use Rattle.catalogue.proofs.CheckLaws.{too-long, no-count, by-rows}
 
 returns : tie.Need-returns
 returns c =
-    let r = too-long (c .before .before .args .s .now) (c .before .before .args .places .now) (c .if1 .taken) in (r .told, r .left-is)
+    let r = too-long (c .before .before .args .catalogue .now) (c .before .before .args .places .now) (c .if1 .taken) in (r .told, r .left-is)
 
 read-requires : tie.Need-read-requires
 read-requires c κs = search needs
@@ -24,28 +24,28 @@ enum-told c = search needs
 returns-2 : tie.Need-returns-2
 returns-2 c =
     let a = c .before .before .before .before .before .args in
-    let r = no-count (a .s .now) (a .places .now) (c .before .before .before .if1 .left) (sym (c .before .before .read .ensures) ∙ c .enum-told .given .1) in
+    let r = no-count (a .catalogue .now) (a .places .now) (c .before .before .before .if1 .left) (sym (c .before .before .read .ensures) ∙ c .enum-told .given .1) in
     (r .told, r .left-is)
 
 check-rows-requires : tie.Need-check-rows-requires
 check-rows-requires c κs =
     let a = c .before .before .before .before .before .before .before .args in
     let v = c .before .before .count .given in
-    let r = reading-read 1024 (a .s .now) 0 (v .0 .0) (v .0 .1 .0) (sym (c .before .before .before .before .read .ensures) ∙ v .1) in
+    let r = reading-read 1024 (a .catalogue .now) 0 (v .0 .0) (v .0 .1 .0) (sym (c .before .before .before .before .read .ensures) ∙ v .1) in
     (c .before .before .before .before .before .if1 .left, r .inside, r .small)
 
 cast-t10 : tie.Need-cast-t10
 cast-t10 c =
     let a = c .before .before .before .before .before .before .before .before .before .args in
     let v = c .before .before .before .before .count .given in
-    let r = reading-read 1024 (a .s .now) 0 (v .0 .0) (v .0 .1 .0) (sym (c .before .before .before .before .before .before .read .ensures) ∙ v .1) in
+    let r = reading-read 1024 (a .catalogue .now) 0 (v .0 .0) (v .0 .1 .0) (sym (c .before .before .before .before .before .before .read .ensures) ∙ v .1) in
     omega (arith, r .small)
 
 returns-3 : tie.Need-returns-3
 returns-3 c =
     let a = c .before .before .before .before .before .before .before .before .before .args in
     let v = c .before .before .before .before .count .given in
-    let r = by-rows (a .s .now) (a .places .now) (v .0 .0) (v .0 .1 .0) true (c .before .check-rows .last .1 .1 .1 .0)
+    let r = by-rows (a .catalogue .now) (a .places .now) (v .0 .0) (v .0 .1 .0) true (c .before .check-rows .last .1 .1 .1 .0)
     (c .before .before .before .before .before .before .before .if1 .left)
     (sym (c .before .before .before .before .before .before .read .ensures) ∙ v .1)
     (sym (c .if2 .taken) ∙ c .before .check-rows .ensures .0)
@@ -56,7 +56,7 @@ returns-4 : tie.Need-returns-4
 returns-4 c =
     let a = c .before .before .before .before .before .before .before .before .before .args in
     let v = c .before .before .before .before .count .given in
-    let r = by-rows (a .s .now) (a .places .now) (v .0 .0) (v .0 .1 .0) false (c .before .check-rows .last .1 .1 .1 .0)
+    let r = by-rows (a .catalogue .now) (a .places .now) (v .0 .0) (v .0 .1 .0) false (c .before .check-rows .last .1 .1 .1 .0)
     (c .before .before .before .before .before .before .before .if1 .left)
     (sym (c .before .before .before .before .before .before .read .ensures) ∙ v .1)
     (sym (c .if2 .left) ∙ c .before .check-rows .ensures .0)

@@ -34,7 +34,7 @@ row-end-requires c κs = search needs
 returns : tie.Need-returns Inv-loop μ-loop
 returns c =
     let l = c .before .before .before .loop in
-    let s = c .before .before .before .before .before .args .s .now in
+    let s = c .before .before .before .before .before .args .catalogue .now in
     let e = row-gone s (l .at) (sym (c .before .row-end .ensures) ∙ c .if1 .taken) in (
       sym (rows-bad (l .left) s (l .at) (l .places) (l .i) (search needs) e) ∙ l .inv .2,
       sym (places-bad (l .left) s (l .at) (l .places) (l .i) (search needs) e) ∙ l .inv .3,
@@ -52,7 +52,7 @@ loop-less c = search needs
 loop-again : tie.Need-loop-again Inv-loop μ-loop
 loop-again c =
     let l = c .before .before .before .loop in
-    let s = c .before .before .before .before .before .args .s .now in
+    let s = c .before .before .before .before .before .args .catalogue .now in
     let next = c .before .row-end .result in
     let there = row-there s (l .at) next (c .before .row-end .ensures) (c .if1 .left) in
     let f = there .0 in
@@ -66,7 +66,7 @@ loop-again c =
 returns-2 : tie.Need-returns-2 Inv-loop μ-loop
 returns-2 c =
     let l = c .before .loop in
-    let s = c .before .before .before .args .s .now in (
+    let s = c .before .before .before .args .catalogue .now in (
       sym (rows-none (l .left) s (l .at) (search needs)) ∙ l .inv .2,
       sym (places-none (l .left) s (l .at) (l .places) (l .i) (search needs)) ∙ l .inv .3,
     )

@@ -60,7 +60,7 @@ text-end-requires c κs = search needs
 returns-4 : tie.Need-returns-4
 unfolding rowAt
 returns-4 c =
-    let s = c .before .before .before .before .before .before .before .before .before .before .before .before .before .before .before .args .s .now in
+    let s = c .before .before .before .before .before .before .before .before .before .before .before .before .before .before .before .args .catalogue .now in
     rw (
       sym (c .before .before .before .before .before .before .before .before .before .before .before .before .before .read .ensures) ∙ c .before .before .before .before .before .before .before .before .before .before .before .at1 .given .1,
       sym (c .before .before .before .before .before .before .before .before .before .read2 .ensures) ∙ c .before .before .before .before .before .before .before .at2 .given .1,
@@ -74,7 +74,7 @@ text-end-requires-2 c κs = search needs
 returns-5 : tie.Need-returns-5
 returns-5 c =
     let a = c .before .before .before .before .before .before .before .before .before .before .before .before .before .before .before .before .args in
-    row-ends (a .s .now) (a .at) _ _ _ _ _ (c .before .before .before .before .at3 .given .0 .1 .0) (c .before .before .text-end .result) _
+    row-ends (a .catalogue .now) (a .at) _ _ _ _ _ (c .before .before .before .before .at3 .given .0 .1 .0) (c .before .before .text-end .result) _
     (sym (c .before .before .before .before .before .before .before .before .before .before .before .before .before .before .read .ensures) ∙ c .before .before .before .before .before .before .before .before .before .before .before .before .at1 .given .1)
     (sym (c .before .before .before .before .before .before .before .before .before .before .read2 .ensures) ∙ c .before .before .before .before .before .before .before .before .at2 .given .1)
     (sym (c .before .before .before .before .before .before .read3 .ensures) ∙ c .before .before .before .before .at3 .given .1)

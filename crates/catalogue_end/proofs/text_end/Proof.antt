@@ -25,7 +25,7 @@ units-end-requires : tie.Need-units-end-requires
 units-end-requires c κs =
     let a = c .before .before .before .before .before in
     let g = c .before .size .given in
-    let r = reading-read 2049 (a .args .s .now) (a .args .at) (g .0 .0) (g .0 .1 .0) (sym (c .before .before .before .read .ensures) ∙ g .1) in
+    let r = reading-read 2049 (a .args .catalogue .now) (a .args .at) (g .0 .0) (g .0 .1 .0) (sym (c .before .before .before .read .ensures) ∙ g .1) in
     (omega (arith, r .inside, a .good), r .small)
 
 returns-2 : tie.Need-returns-2
@@ -33,8 +33,8 @@ returns-2 c =
     let a = c .before .before .before .before .before .before .before in
     let g = c .before .before .before .size .given in
     let e = sym (c .before .before .before .before .before .read .ensures) ∙ g .1 in
-    let r = reading-read 2049 (a .args .s .now) (a .args .at) (g .0 .0) (g .0 .1 .0) e in
-    end-short (a .args .s .now) (a .args .at) (g .0 .0) (g .0 .1 .0) e (r .inside) (search needs)
+    let r = reading-read 2049 (a .args .catalogue .now) (a .args .at) (g .0 .0) (g .0 .1 .0) e in
+    end-short (a .args .catalogue .now) (a .args .at) (g .0 .0) (g .0 .1 .0) e (r .inside) (search needs)
 
 sub-none-zero : tie.Need-sub-none-zero
 sub-none-zero c = search needs
@@ -52,7 +52,7 @@ returns-3 : tie.Need-returns-3
 returns-3 c =
     let a = c .before .before .before .before .before .before .before .before .before .before in
     let g = c .before .before .before .before .before .before .size .given in
-    end-clear (a .args .s .now) (a .args .at) (g .0 .0) (g .0 .1 .0) (c .before .before .before .before .units-end .result) (sym (c .before .before .before .before .before .before .before .before .read .ensures) ∙ g .1)
+    end-clear (a .args .catalogue .now) (a .args .at) (g .0 .0) (g .0 .1 .0) (c .before .before .before .before .units-end .result) (sym (c .before .before .before .before .before .before .before .before .read .ensures) ∙ g .1)
     (c .before .before .before .before .units-end .ensures)
     (search needs)
     (sym (c .if2 .taken) ∙ c .before .none-zero .ensures)
@@ -61,7 +61,7 @@ returns-4 : tie.Need-returns-4
 returns-4 c =
     let a = c .before .before .before .before .before .before .before .before .before .before in
     let g = c .before .before .before .before .before .before .size .given in
-    end-zero (a .args .s .now) (a .args .at) (g .0 .0) (g .0 .1 .0) (c .before .before .before .before .units-end .result) (sym (c .before .before .before .before .before .before .before .before .read .ensures) ∙ g .1)
+    end-zero (a .args .catalogue .now) (a .args .at) (g .0 .0) (g .0 .1 .0) (c .before .before .before .before .units-end .result) (sym (c .before .before .before .before .before .before .before .before .read .ensures) ∙ g .1)
     (c .before .before .before .before .units-end .ensures)
     (search needs)
     (sym (c .if2 .left) ∙ c .before .none-zero .ensures)

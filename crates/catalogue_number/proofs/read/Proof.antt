@@ -7,7 +7,7 @@ use native.Mathlib.Omega.{arith}
 use Rattle.catalogue.proofs.Carry.{reading-end, reading-over, reading-one, reading-more}
 
 returns : tie.Need-returns
-returns c = let a = c .before .before .args in sym (reading-end (a .limit) (a .s .now) (a .at) (c .if1 .taken))
+returns c = let a = c .before .before .args in sym (reading-end (a .limit) (a .catalogue .now) (a .at) (c .if1 .taken))
 
 shared-slice-read-first : tie.Need-shared-slice-read-first
 shared-slice-read-first c = search needs
@@ -17,21 +17,21 @@ cast-first c = omega (arith, c .shared-slice-known2 .given (c .before .before .b
 
 returns-2 : tie.Need-returns-2
 returns-2 c = let a = c .before .before .before .before .before .args in
-    sym (reading-over (a .limit) (a .s .now) (a .at) (search needs) (search needs) (search needs))
+    sym (reading-over (a .limit) (a .catalogue .now) (a .at) (search needs) (search needs) (search needs))
 
 add-t10 : tie.Need-add-t10
 add-t10 c = search needs
 
 returns-3 : tie.Need-returns-3
 returns-3 c = let a = c .before .before .before .before .before .args in
-    sym (reading-one (a .limit) (a .s .now) (a .at) (search needs) (search needs) (search needs))
+    sym (reading-one (a .limit) (a .catalogue .now) (a .at) (search needs) (search needs) (search needs))
 
 read-further-requires : tie.Need-read-further-requires
 read-further-requires c κs = search needs
 
 returns-4 : tie.Need-returns-4
 returns-4 c = let a = c .before .before .before .before .before .args in
-    c .read-further .ensures ∙ sym (reading-more (a .limit) (a .s .now) (a .at) (search needs) (search needs))
+    c .read-further .ensures ∙ sym (reading-more (a .limit) (a .catalogue .now) (a .at) (search needs) (search needs))
 
 pub read-spec : {M : Type 1} → statement M
 read-spec =

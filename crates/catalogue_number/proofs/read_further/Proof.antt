@@ -17,16 +17,16 @@ abbrev μ-loop : tie.MeasureT-loop
 μ-loop s at low limit value₀ weight₀ room₀ i₀ value weight room i = length s - i
 
 returns : tie.Need-returns Inv-loop μ-loop
-returns c = let a = c .before .args in sym (begin-over (a .limit) (a .at) (a .low) (groups (drop (a .at + 1) (a .s .now))) (c .if1 .taken))
+returns c = let a = c .before .args in sym (begin-over (a .limit) (a .at) (a .low) (groups (drop (a .at + 1) (a .catalogue .now))) (c .if1 .taken))
 
 returns-2 : tie.Need-returns-2 Inv-loop μ-loop
-returns-2 c = let a = c .before .before .args in sym (begin-full (a .limit) (a .at) (a .low) (groups (drop (a .at + 1) (a .s .now))) (c .before .if1 .left) (c .if2 .taken))
+returns-2 c = let a = c .before .before .args in sym (begin-full (a .limit) (a .at) (a .low) (groups (drop (a .at + 1) (a .catalogue .now))) (c .before .if1 .left) (c .if2 .taken))
 
 add-i : tie.Need-add-i Inv-loop μ-loop
 add-i c = search needs
 
 loop-holds : tie.Need-loop-holds Inv-loop μ-loop
-loop-holds c = let a = c .before .before .args in (search needs, omega arith, carry-begin (a .limit) (a .at) (a .low) (groups (drop (a .at + 1) (a .s .now))) (c .before .if1 .left))
+loop-holds c = let a = c .before .before .args in (search needs, omega arith, carry-begin (a .limit) (a .at) (a .low) (groups (drop (a .at + 1) (a .catalogue .now))) (c .before .if1 .left))
 
 shared-slice-read-group : tie.Need-shared-slice-read-group Inv-loop μ-loop
 shared-slice-read-group c = search needs
@@ -36,40 +36,40 @@ cast-group c = omega (arith, c .shared-slice-known .given (c .before .before .lo
 
 returns-3 : tie.Need-returns-3 Inv-loop μ-loop
 returns-3 c = let l = c .before .before .before .before .loop in
-    let s = c .before .before .before .before .before .before .before .args .s .now in
+    let s = c .before .before .before .before .before .before .before .args .catalogue .now in
     sym (l .inv .2 ∙ carry-zero (l .value) (l .weight) (l .room) s (l .i) (search needs) (search needs))
 
 returns-4 : tie.Need-returns-4 Inv-loop μ-loop
 returns-4 c = let l = c .before .before .before .before .before .loop in
-    let s = c .before .before .before .before .before .before .before .before .args .s .now in
+    let s = c .before .before .before .before .before .before .before .before .args .catalogue .now in
     sym (l .inv .2 ∙ carry-last-over (l .value) (l .weight) (l .room) s (l .i) (search needs) (search needs) (search needs))
 
 mul-t19 : tie.Need-mul-t19 Inv-loop μ-loop
 mul-t19 c = let l = c .before .before .before .before .before .loop in
     let a = c .before .before .before .before .before .before .before .before in
-    omega (arith, a .fits .limit, added-fits (l .value) (l .weight) (l .room) (a .args .limit) (getD (a .args .s .now) (l .i) 0) (l .inv .1) (c .if5 .left))
+    omega (arith, a .fits .limit, added-fits (l .value) (l .weight) (l .room) (a .args .limit) (getD (a .args .catalogue .now) (l .i) 0) (l .inv .1) (c .if5 .left))
 
 add-t20 : tie.Need-add-t20 Inv-loop μ-loop
 add-t20 c = let l = c .before .before .before .before .before .loop in
     let a = c .before .before .before .before .before .before .before .before in
-    omega (arith, a .fits .limit, added-fits (l .value) (l .weight) (l .room) (a .args .limit) (getD (a .args .s .now) (l .i) 0) (l .inv .1) (c .if5 .left))
+    omega (arith, a .fits .limit, added-fits (l .value) (l .weight) (l .room) (a .args .limit) (getD (a .args .catalogue .now) (l .i) 0) (l .inv .1) (c .if5 .left))
 
 add-t21 : tie.Need-add-t21 Inv-loop μ-loop
 add-t21 c = search needs
 
 returns-5 : tie.Need-returns-5 Inv-loop μ-loop
 returns-5 c = let l = c .before .before .before .before .before .loop in
-    let s = c .before .before .before .before .before .before .before .before .args .s .now in
+    let s = c .before .before .before .before .before .before .before .before .args .catalogue .now in
     sym (l .inv .2 ∙ carry-last (l .value) (l .weight) (l .room) s (l .i) (search needs) (search needs) (search needs) (search needs))
 
 returns-6 : tie.Need-returns-6 Inv-loop μ-loop
 returns-6 c = let l = c .before .before .before .before .loop in
-    let s = c .before .before .before .before .before .before .before .args .s .now in
+    let s = c .before .before .before .before .before .before .before .args .catalogue .now in
     sym (l .inv .2 ∙ carry-group-over (l .value) (l .weight) (l .room) s (l .i) (search needs) (search needs) (search needs))
 
 returns-7 : tie.Need-returns-7 Inv-loop μ-loop
 returns-7 c = let l = c .before .before .before .before .before .loop in
-    let s = c .before .before .before .before .before .before .before .before .args .s .now in
+    let s = c .before .before .before .before .before .before .before .before .args .catalogue .now in
     sym
     (l .inv .2
     ∙ carry-group-full (l .value) (l .weight) (l .room) s (l .i) (search needs) (search needs) (search needs) (c .if7 .taken))
@@ -77,17 +77,17 @@ returns-7 c = let l = c .before .before .before .before .before .loop in
 mul-value : tie.Need-mul-value Inv-loop μ-loop
 mul-value c = let l = c .before .before .before .before .before .loop in
     let a = c .before .before .before .before .before .before .before .before in
-    omega (arith, a .fits .limit, added-fits (l .value) (l .weight) (l .room) (a .args .limit) (getD (a .args .s .now) (l .i) 0 - 128) (l .inv .1) (c .before .if6 .left))
+    omega (arith, a .fits .limit, added-fits (l .value) (l .weight) (l .room) (a .args .limit) (getD (a .args .catalogue .now) (l .i) 0 - 128) (l .inv .1) (c .before .if6 .left))
 
 add-value : tie.Need-add-value Inv-loop μ-loop
 add-value c = let l = c .before .before .before .before .before .loop in
     let a = c .before .before .before .before .before .before .before .before in
-    omega (arith, a .fits .limit, added-fits (l .value) (l .weight) (l .room) (a .args .limit) (getD (a .args .s .now) (l .i) 0 - 128) (l .inv .1) (c .before .if6 .left))
+    omega (arith, a .fits .limit, added-fits (l .value) (l .weight) (l .room) (a .args .limit) (getD (a .args .catalogue .now) (l .i) 0 - 128) (l .inv .1) (c .before .if6 .left))
 
 mul-weight : tie.Need-mul-weight Inv-loop μ-loop
 mul-weight c = let l = c .before .before .before .before .before .loop in
     let a = c .before .before .before .before .before .before .before .before in
-    let bits = getD (a .args .s .now) (l .i) 0 - 128 in
+    let bits = getD (a .args .catalogue .now) (l .i) 0 - 128 in
     let left = (l .room - bits) / 128 in
     omega (
       arith,
@@ -110,15 +110,15 @@ loop-less c = search needs
 loop-again : tie.Need-loop-again Inv-loop μ-loop
 loop-again c = let l = c .before .before .before .before .before .loop in
     let a = c .before .before .before .before .before .before .before .before .args in
-    let bits = getD (a .s .now) (l .i) 0 - 128 in (
+    let bits = getD (a .catalogue .now) (l .i) 0 - 128 in (
       omega arith,
       room-kept (l .value) (l .weight) (l .room) (a .limit) bits ((l .room - bits) / 128) (l .inv .1) (omega arith),
-      l .inv .2 ∙ carry-group (l .value) (l .weight) (l .room) (a .s .now) (l .i) (search needs) (search needs) (search needs),
+      l .inv .2 ∙ carry-group (l .value) (l .weight) (l .room) (a .catalogue .now) (l .i) (search needs) (search needs) (search needs),
     )
 
 returns-8 : tie.Need-returns-8 Inv-loop μ-loop
 returns-8 c = let l = c .before .loop in
-    sym (l .inv .2 ∙ carry-end (l .value) (l .weight) (l .room) (c .before .before .before .before .args .s .now) (l .i) (c .loop-test .left))
+    sym (l .inv .2 ∙ carry-end (l .value) (l .weight) (l .room) (c .before .before .before .before .args .catalogue .now) (l .i) (c .loop-test .left))
 
 pub read-further-spec : {M : Type 1} → statement M
 read-further-spec =

@@ -59,7 +59,7 @@ returns-3 c =
 text-again-requires : tie.Need-text-again-requires
 text-again-requires c κs =
     let a = c .before .before .before .before .before .before .before .before .before .before .before .before .before in
-    label-there (a .args .s .now) (a .args .at) _ _ _ _ _ (c .before .default .given .0 .1 .0)
+    label-there (a .args .catalogue .now) (a .args .at) _ _ _ _ _ (c .before .default .given .0 .1 .0)
     (sym (c .before .before .before .before .before .before .before .before .before .before .before .read .ensures) ∙ c .before .before .before .before .before .before .before .before .before .key .given .1)
     (sym (c .before .before .before .before .before .before .before .read2 .ensures) ∙ c .before .before .before .before .before .language .given .1)
     (sym (c .before .before .before .read3 .ensures) ∙ c .before .default .given .1)
@@ -84,7 +84,7 @@ returns-4 c =
 text-again-requires-2 : tie.Need-text-again-requires-2
 text-again-requires-2 c κs =
     let a = c .before .before .before .before .before .before .before .before .before .before .before .before .before .before .before .before .before in
-    note-there (a .args .s .now) (a .args .at) _ _ _ _ _ (c .before .before .before .before .before .default .given .0 .1 .0)
+    note-there (a .args .catalogue .now) (a .args .at) _ _ _ _ _ (c .before .before .before .before .before .default .given .0 .1 .0)
     (sym (c .before .before .before .before .before .before .before .before .before .before .before .before .before .before .before .read .ensures) ∙ c .before .before .before .before .before .before .before .before .before .before .before .before .before .key .given .1)
     (sym (c .before .before .before .before .before .before .before .before .before .before .before .read2 .ensures) ∙ c .before .before .before .before .before .before .before .before .before .language .given .1)
     (sym (c .before .before .before .before .before .before .before .read3 .ensures) ∙ c .before .before .before .before .before .default .given .1)

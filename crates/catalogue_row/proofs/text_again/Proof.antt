@@ -26,7 +26,7 @@ units-end-requires : tie.Need-units-end-requires
 units-end-requires c κs =
     let a = c .before .before .before .before .before in
     let g = c .before .told .given in
-    let r = reading-read 2049 (a .args .s .now) (a .args .at) (g .0 .0) (g .0 .1 .0) (sym (c .before .before .before .read .ensures) ∙ g .1) in
+    let r = reading-read 2049 (a .args .catalogue .now) (a .args .at) (g .0 .0) (g .0 .1 .0) (sym (c .before .before .before .read .ensures) ∙ g .1) in
     (omega (arith, r .inside, a .good), r .small)
 
 returns-2 : tie.Need-returns-2
@@ -34,7 +34,7 @@ returns-2 c =
     let a = c .before .before .before .before .before .before in
     let g = c .before .before .told .given in
     ap (TextTo (record { size = g .0 .0; start = g .0 .1 .0 })) (c .units-end .ensures)
-    ∙ text-known (a .args .s .now) (a .args .at) (g .0 .0) (g .0 .1 .0) (sym (c .before .before .before .before .read .ensures) ∙ g .1) (a .pre)
+    ∙ text-known (a .args .catalogue .now) (a .args .at) (g .0 .0) (g .0 .1 .0) (sym (c .before .before .before .before .read .ensures) ∙ g .1) (a .pre)
 
 pub text-again-spec : {M : Type 1} → statement M
 text-again-spec =

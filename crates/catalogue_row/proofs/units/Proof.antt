@@ -18,7 +18,7 @@ part-result-end c = search needs
 
 returns : tie.Need-returns
 returns c =
-    let a = c .before .before .before .args in units-part (a .s .now) (a .text) (c .before .units-end .result) (c .before .units-end .ensures)
+    let a = c .before .before .before .args in units-part (a .catalogue .now) (a .text) (c .before .units-end .result) (c .before .units-end .ensures)
 
 pub units-spec : {M : Type 1} → statement M
 units-spec =

@@ -11,7 +11,7 @@ use borrow.Author.Tests.{not-true, not-false}
 use mathlib.Core.Path.{sym, ap, _∙_}
 
 returns : tie.Need-returns
-returns c = sym (ap asking (short (c .before .before .args .m .now) (c .if1 .taken)))
+returns c = sym (ap asking (short (c .before .before .args .message .now) (c .if1 .taken)))
 
 word-requires : tie.Need-word-requires
 word-requires c κs = search needs
@@ -29,7 +29,7 @@ in-range-requires : tie.Need-in-range-requires
 in-range-requires c κs = search needs
 
 returns-2 : tie.Need-returns-2
-returns-2 c = let m = c .before .before .before .before .before .before .before .before .args .m .now in sym (ap asking (unfit m (c .before .before .before .before .before .before .if1 .left) ((rw (c .before .before .before .before .before .word .ensures, c .before .before .before .before .word2 .ensures, c .before .before .before .word3 .ensures, c .before .before .word4 .ensures) at (sym (c .before .in-range .ensures))) ∙ not-true _ (c .if2 .taken))))
+returns-2 c = let m = c .before .before .before .before .before .before .before .before .args .message .now in sym (ap asking (unfit m (c .before .before .before .before .before .before .if1 .left) ((rw (c .before .before .before .before .before .word .ensures, c .before .before .before .before .word2 .ensures, c .before .before .before .word3 .ensures, c .before .before .word4 .ensures) at (sym (c .before .in-range .ensures))) ∙ not-true _ (c .if2 .taken))))
 
 word-requires-5 : tie.Need-word-requires-5
 word-requires-5 c κs = search needs
@@ -41,14 +41,14 @@ seek-fits-requires : tie.Need-seek-fits-requires
 seek-fits-requires c κs = search needs
 
 returns-3 : tie.Need-returns-3
-returns-3 c = let m = c .before .before .before .before .before .before .before .before .before .before .before .before .args .m .now in sym (ap asking (seek-unfit m (c .before .before .before .before .before .before .before .before .before .before .if1 .left) ((rw (c .before .before .before .before .before .before .before .before .before .word .ensures, c .before .before .before .before .before .before .before .before .word2 .ensures, c .before .before .before .before .before .before .before .word3 .ensures, c .before .before .before .before .before .before .word4 .ensures) at (sym (c .before .before .before .before .before .in-range .ensures))) ∙ not-false _ (c .before .before .before .before .if2 .left)) ((rw (c .before .before .before .word5 .ensures, c .before .before .word6 .ensures) at (sym (c .before .seek-fits .ensures))) ∙ not-true _ (c .if3 .taken))))
+returns-3 c = let m = c .before .before .before .before .before .before .before .before .before .before .before .before .args .message .now in sym (ap asking (seek-unfit m (c .before .before .before .before .before .before .before .before .before .before .if1 .left) ((rw (c .before .before .before .before .before .before .before .before .before .word .ensures, c .before .before .before .before .before .before .before .before .word2 .ensures, c .before .before .before .before .before .before .before .word3 .ensures, c .before .before .before .before .before .before .word4 .ensures) at (sym (c .before .before .before .before .before .in-range .ensures))) ∙ not-false _ (c .before .before .before .before .if2 .left)) ((rw (c .before .before .before .word5 .ensures, c .before .before .word6 .ensures) at (sym (c .before .seek-fits .ensures))) ∙ not-true _ (c .if3 .taken))))
 
 values-requires : tie.Need-values-requires
 values-requires c κs = (c .before .before .before .before .before .before .before .before .before .before .if1 .left, reserved-small (c .before .before .before .before .before .before .before .before .before .word .result) (c .before .before .before .before .before .before .before .before .word2 .result) (c .before .before .before .before .before .before .before .word3 .result) (c .before .before .before .before .before .before .word4 .result) (sym (c .before .before .before .before .before .in-range .ensures) ∙ not-false _ (c .before .before .before .before .if2 .left)))
 
 returns-4 : tie.Need-returns-4
 returns-4 c =
-    let m = c .before .before .before .before .before .before .before .before .before .before .before .before .before .args .m .now in
+    let m = c .before .before .before .before .before .before .before .before .before .before .before .before .before .args .message .now in
     ap Asked (c .values .ensures ∙ ap (λ (n : ℕ). asked n m) (c .before .before .before .before .before .before .before .before .before .before .word .ensures))
     ∙ sym (ap asking (read-whole m (c .before .before .before .before .before .before .before .before .before .before .before .if1 .left) ((rw (c .before .before .before .before .before .before .before .before .before .before .word .ensures, c .before .before .before .before .before .before .before .before .before .word2 .ensures, c .before .before .before .before .before .before .before .before .word3 .ensures, c .before .before .before .before .before .before .before .word4 .ensures) at (sym (c .before .before .before .before .before .before .in-range .ensures))) ∙ not-false _ (c .before .before .before .before .before .if2 .left)) ((rw (c .before .before .before .before .word5 .ensures, c .before .before .before .word6 .ensures) at (sym (c .before .before .seek-fits .ensures))) ∙ not-false _ (c .before .if3 .left))))
 

@@ -15,7 +15,7 @@ same-length : tie.Need-same-length
 same-length c = search needs
 
 returns : tie.Need-returns
-returns c = let a = c .before .before .before .before .before .before .before in early-refused (a .args .block .now) (a .args .s .now) (a .args .q) _ (a .args .reply .now) (c .before .judge .ensures) (c .if1 .taken)
+returns c = let a = c .before .before .before .before .before .before .before in early-refused (a .args .cursor .now) (a .args .catalogue .now) (a .args .request) _ (a .args .reply .now) (c .before .judge .ensures) (c .if1 .taken)
 
 first-unfit-requires : tie.Need-first-unfit-requires
 first-unfit-requires c κs = search needs
@@ -24,7 +24,7 @@ same-length-2 : tie.Need-same-length-2
 same-length-2 c = search needs
 
 returns-2 : tie.Need-returns-2
-returns-2 c = let a = c .before .before .before .before .before .before .before .before .before .before in late-refused (a .args .block .now) (a .args .s .now) (a .args .q) (sym (c .before .before .before .before .judge .ensures) ∙ c .before .before .before .if1 .left) (a .args .reply .now) (sym (c .before .first-unfit .ensures) ∙ c .if2 .taken)
+returns-2 c = let a = c .before .before .before .before .before .before .before .before .before .before in late-refused (a .args .cursor .now) (a .args .catalogue .now) (a .args .request) (sym (c .before .before .before .before .judge .ensures) ∙ c .before .before .before .if1 .left) (a .args .reply .now) (sym (c .before .first-unfit .ensures) ∙ c .if2 .taken)
 
 send-requires : tie.Need-send-requires
 send-requires c κs = search needs
@@ -48,7 +48,7 @@ same-length-4 : tie.Need-same-length-4
 same-length-4 c = search needs
 
 returns-3 : tie.Need-returns-3
-returns-3 c = let a = c .before .before .before .before .before .before .before .before .before .before .before .before .before .before .before .before .before .before .before .before in fetch-done (a .args .block .now) (a .args .s .now) (a .args .q) (sym (c .before .before .before .before .before .before .before .before .before .before .before .before .before .before .judge .ensures) ∙ c .before .before .before .before .before .before .before .before .before .before .before .before .before .if1 .left) _ _ (a .args .reply .now) _ (a .pre .held) (sym (c .before .before .before .before .before .before .before .before .before .before .before .first-unfit .ensures) ∙ c .before .before .before .before .before .before .before .before .before .before .if2 .left) (c .before .before .before .before .before .before .before .send .ensures .0) (c .before .before .move-to .ensures) (c .before .before .before .before .before .before .before .send .ensures .1)
+returns-3 c = let a = c .before .before .before .before .before .before .before .before .before .before .before .before .before .before .before .before .before .before .before .before in fetch-done (a .args .cursor .now) (a .args .catalogue .now) (a .args .request) (sym (c .before .before .before .before .before .before .before .before .before .before .before .before .before .before .judge .ensures) ∙ c .before .before .before .before .before .before .before .before .before .before .before .before .before .if1 .left) _ _ (a .args .reply .now) _ (a .pre .held) (sym (c .before .before .before .before .before .before .before .before .before .before .before .first-unfit .ensures) ∙ c .before .before .before .before .before .before .before .before .before .before .if2 .left) (c .before .before .before .before .before .before .before .send .ensures .0) (c .before .before .move-to .ensures) (c .before .before .before .before .before .before .before .send .ensures .1)
 
 pub fetch-spec : {M : Type 1} → statement M
 fetch-spec =

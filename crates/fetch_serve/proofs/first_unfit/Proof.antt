@@ -5,17 +5,16 @@ use Rattle.fetch_serve.proofs.first_unfit.Tie as tie
 use Rattle.fetch.proofs.Sending.{inside, remaining-length}
 use Rattle.fetch.proofs.Judging.{none-asked, none-left, one-left, room-less}
 use Rattle.fetch.proofs.Facts.{size-is, count-most, position-most, words-ready, width-most, first-there, first-row}
-use Rattle.fetch.specs.Ready.{rowsOf}
+use Rattle.catalogue.specs.Plain.{rowsOf, catalogue}
 use Rattle.fetch.specs.Fetch.{remaining}
 use Rattle.table.specs.Seat.{cursorHeld}
-use Rattle.catalogue.specs.Plain.{catalogue}
 use lib.Dec.{ltb}
 use native.Mathlib.Omega.{arith}
 use Prim.Native.Nat.{ℕ, _+_}
 use mathlib.Core.Path.{sym, ap, _∙_}
 
 returns : tie.Need-returns
-returns c = let a = c .before .before .before .before .before .args in sym (none-asked (cursorHeld (a .block .now)) (a .q) (remaining (rowsOf (catalogue (a .s .now))) (cursorHeld (a .block .now))) (c .if1 .taken))
+returns c = let a = c .before .before .before .before .before .args in sym (none-asked (cursorHeld (a .cursor .now)) (a .request) (remaining (rowsOf (catalogue (a .catalogue .now))) (cursorHeld (a .cursor .now))) (c .if1 .taken))
 
 shared-slice-read-position : tie.Need-shared-slice-read-position
 shared-slice-read-position c = omega (arith, size-is _ _ _ _ _ (c .before .before .before .before .before .before .pre .0))
@@ -30,7 +29,7 @@ cast-selected : tie.Need-cast-selected
 cast-selected c = omega (arith, count-most _ _ _ _ _ (c .before .before .before .before .before .before .before .pre .0))
 
 returns-2 : tie.Need-returns-2
-returns-2 c = let a = c .before .before .before .before .before .before .before .before .args in sym (none-left (cursorHeld (a .block .now)) (a .q) (remaining (rowsOf (catalogue (a .s .now))) (cursorHeld (a .block .now))) (remaining-length _ _ _ _ _ (c .before .before .before .before .before .before .before .before .pre .0) ∙ omega (arith, c .if2 .taken)))
+returns-2 c = let a = c .before .before .before .before .before .before .before .before .args in sym (none-left (cursorHeld (a .cursor .now)) (a .request) (remaining (rowsOf (catalogue (a .catalogue .now))) (cursorHeld (a .cursor .now))) (remaining-length _ _ _ _ _ (c .before .before .before .before .before .before .before .before .pre .0) ∙ omega (arith, c .if2 .taken)))
 
 add-number : tie.Need-add-number
 add-number c = search needs
@@ -75,10 +74,10 @@ returns-3 : tie.Need-returns-3
 returns-3 c =
     let a = c .before .before .before .before .before .before .before .before .before .before .before .before .before .before .args in
     let r = c .before .before .before .before .before .before .before .before .before .before .before .before .before .before .pre .0 in
-    let q = a .q in
+    let q = a .request in
     room-less (q .size) (q .from) (c .before .room-of .result) (inside _ _ _ _ _ r)
     ∙ ap (λ (n : ℕ). ltb (q .size) (q .from + n)) (c .before .room-of .ensures)
-    ∙ sym (one-left (cursorHeld (a .block .now)) q (remaining (rowsOf (catalogue (a .s .now))) (cursorHeld (a .block .now))) _ _ (first-row (a .block .now) (a .s .now) (a .places .now) q _ r (omega (arith, c .before .before .before .before .before .before .if2 .left, position-most _ _ _ _ _ r))) (c .before .before .before .before .before .before .before .before .before .if1 .left))
+    ∙ sym (one-left (cursorHeld (a .cursor .now)) q (remaining (rowsOf (catalogue (a .catalogue .now))) (cursorHeld (a .cursor .now))) _ _ (first-row (a .cursor .now) (a .catalogue .now) (a .places .now) q _ r (omega (arith, c .before .before .before .before .before .before .if2 .left, position-most _ _ _ _ _ r))) (c .before .before .before .before .before .before .before .before .before .if1 .left))
 
 pub first-unfit-spec : {M : Type 1} → statement M
 first-unfit-spec =

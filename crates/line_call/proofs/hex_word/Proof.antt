@@ -17,7 +17,7 @@ returns : tie.Need-returns
 returns c =
     let w = c .before in
     let a = w .before .before .before in
-    let s = a .args .s .now in
+    let s = a .args .line .now in
     let start = w .before .after-separators .result in
     let end = w .after-word .result in
     let p = w .before .after-separators .ensures in
@@ -40,7 +40,7 @@ returns-2 : tie.Need-returns-2
 returns-2 c =
     let w = c .before .before .before .before in
     let a = w .before .before .before in
-    let s = a .args .s .now in
+    let s = a .args .line .now in
     let start = w .before .after-separators .result in
     let end = w .after-word .result in
     let p = w .before .after-separators .ensures in
@@ -63,7 +63,7 @@ returns-3 : tie.Need-returns-3
 returns-3 c =
     let w = c .before .before .before .before .before .before .before in
     let a = w .before .before .before in
-    let s = a .args .s .now in
+    let s = a .args .line .now in
     let start = w .before .after-separators .result in
     let end = w .after-word .result in
     let p = w .before .after-separators .ensures in
@@ -78,7 +78,7 @@ returns-4 : tie.Need-returns-4
 returns-4 c =
     let w = c .before .before .before .before .before .before .before .before in
     let a = w .before .before .before in
-    let s = a .args .s .now in
+    let s = a .args .line .now in
     let start = w .before .after-separators .result in
     let end = w .after-word .result in
     let p = w .before .after-separators .ensures in
@@ -90,7 +90,7 @@ returns-5 : tie.Need-returns-5
 returns-5 c =
     let w = c .before .before .before .before .before .before .before .before in
     let a = w .before .before .before in
-    let s = a .args .s .now in
+    let s = a .args .line .now in
     let start = w .before .after-separators .result in
     let end = w .after-word .result in
     let p = w .before .after-separators .ensures in

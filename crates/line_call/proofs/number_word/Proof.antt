@@ -18,7 +18,7 @@ returns : tie.Need-returns
 returns c =
     let w = c .before in
     let a = w .before .before .before in
-    let s = a .args .s .now in
+    let s = a .args .line .now in
     let start = w .before .after-separators .result in
     let end = w .after-word .result in
     let p = w .before .after-separators .ensures in
@@ -47,7 +47,7 @@ returns-2 : tie.Need-returns-2
 returns-2 c =
     let w = c .before .before .before .before .before in
     let a = w .before .before .before in
-    let s = a .args .s .now in
+    let s = a .args .line .now in
     let start = w .before .after-separators .result in
     let end = w .after-word .result in
     let p = w .before .after-separators .ensures in
@@ -62,7 +62,7 @@ returns-3 : tie.Need-returns-3
 returns-3 c =
     let w = c .before .before .before .before .before .before in
     let a = w .before .before .before in
-    let s = a .args .s .now in
+    let s = a .args .line .now in
     let start = w .before .after-separators .result in
     let end = w .after-word .result in
     let p = w .before .after-separators .ensures in

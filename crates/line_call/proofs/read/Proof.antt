@@ -17,7 +17,7 @@ returns : tie.Need-returns
 returns c =
     let w = c .before in
     let a = w .before .before .before in
-    let s = a .args .s .now in
+    let s = a .args .line .now in
     let start = w .before .after-separators .result in
     let end = w .after-word .result in
     let p = w .before .after-separators .ensures in
@@ -47,7 +47,7 @@ unfolding named
 returns-2 c =
     let w = c .before .before .before .before .before .before in
     let a = w .before .before .before in
-    let s = a .args .s .now in
+    let s = a .args .line .now in
     let start = w .before .after-separators .result in
     let end = w .after-word .result in
     let p = w .before .after-separators .ensures in
@@ -69,7 +69,7 @@ unfolding named
 returns-3 c =
     let w = c .before .before .before .before .before .before .before .before .before in
     let a = w .before .before .before in
-    let s = a .args .s .now in
+    let s = a .args .line .now in
     let start = w .before .after-separators .result in
     let end = w .after-word .result in
     let p = w .before .after-separators .ensures in
@@ -92,7 +92,7 @@ unfolding named
 returns-4 c =
     let w = c .before .before .before .before .before .before .before .before .before .before .before .before in
     let a = w .before .before .before in
-    let s = a .args .s .now in
+    let s = a .args .line .now in
     let start = w .before .after-separators .result in
     let end = w .after-word .result in
     let p = w .before .after-separators .ensures in
@@ -116,7 +116,7 @@ unfolding named
 returns-5 c =
     let w = c .before .before .before .before .before .before .before .before .before .before .before .before .before .before .before in
     let a = w .before .before .before in
-    let s = a .args .s .now in
+    let s = a .args .line .now in
     let start = w .before .after-separators .result in
     let end = w .after-word .result in
     let p = w .before .after-separators .ensures in
@@ -141,7 +141,7 @@ unfolding named
 returns-6 c =
     let w = c .before .before .before .before .before .before .before .before .before .before .before .before .before .before .before .before .before .before in
     let a = w .before .before .before in
-    let s = a .args .s .now in
+    let s = a .args .line .now in
     let start = w .before .after-separators .result in
     let end = w .after-word .result in
     let p = w .before .after-separators .ensures in
@@ -158,7 +158,7 @@ unfolding named
 returns-7 c =
     let w = c .before .before .before .before .before .before .before .before .before .before .before .before .before .before .before .before .before in
     let a = w .before .before .before in
-    let s = a .args .s .now in
+    let s = a .args .line .now in
     let start = w .before .after-separators .result in
     let end = w .after-word .result in
     let p = w .before .after-separators .ensures in

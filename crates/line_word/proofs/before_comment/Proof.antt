@@ -25,7 +25,7 @@ shared-slice-read-if1 c = search needs
 returns : tie.Need-returns Inv-loop μ-loop
 returns c =
     let l = c .before .before .before .loop in
-    let s = c .before .before .before .before .args .s .now in
+    let s = c .before .before .before .before .args .line .now in
     (sym (l .inv .1 ∙ run-stops inCall s (l .i) (omega arith) (ap opposite (eq-eqb _ 35 (c .if1 .taken)))), l .inv .0)
 
 add-i : tie.Need-add-i Inv-loop μ-loop
@@ -37,13 +37,13 @@ loop-less c = search needs
 loop-again : tie.Need-loop-again Inv-loop μ-loop
 loop-again c =
     let l = c .before .before .before .loop in
-    let s = c .before .before .before .before .args .s .now in
+    let s = c .before .before .before .before .args .line .now in
     (omega arith, l .inv .1 ∙ run-more inCall s (l .i) (omega arith) (ap opposite (ne-eqb _ 35 (c .if1 .left))))
 
 returns-2 : tie.Need-returns-2 Inv-loop μ-loop
 returns-2 c =
     let l = c .before .loop in
-    (sym (l .inv .1 ∙ run-ends inCall (c .before .before .args .s .now) (l .i) (omega arith)), l .inv .0)
+    (sym (l .inv .1 ∙ run-ends inCall (c .before .before .args .line .now) (l .i) (omega arith)), l .inv .0)
 
 pub before-comment-spec : {M : Type 1} → statement M
 before-comment-spec =

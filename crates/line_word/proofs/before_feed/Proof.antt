@@ -25,7 +25,7 @@ shared-slice-read-if1 c = search needs
 returns : tie.Need-returns Inv-loop μ-loop
 returns c =
     let l = c .before .before .before .loop in
-    let s = c .before .before .before .before .args .s .now in
+    let s = c .before .before .before .before .args .chunk .now in
     (sym (l .inv .2 ∙ run-stops inLine s (l .i) (omega arith) (ap opposite (eq-eqb _ 10 (c .if1 .taken)))), l .inv .0, l .inv .1)
 
 add-i : tie.Need-add-i Inv-loop μ-loop
@@ -37,13 +37,13 @@ loop-less c = search needs
 loop-again : tie.Need-loop-again Inv-loop μ-loop
 loop-again c =
     let l = c .before .before .before .loop in
-    let s = c .before .before .before .before .args .s .now in
+    let s = c .before .before .before .before .args .chunk .now in
     (omega arith, omega arith, l .inv .2 ∙ run-more inLine s (l .i) (omega arith) (ap opposite (ne-eqb _ 10 (c .if1 .left))))
 
 returns-2 : tie.Need-returns-2 Inv-loop μ-loop
 returns-2 c =
     let l = c .before .loop in
-    (sym (l .inv .2 ∙ run-ends inLine (c .before .before .args .s .now) (l .i) (omega arith)), l .inv .0, l .inv .1)
+    (sym (l .inv .2 ∙ run-ends inLine (c .before .before .args .chunk .now) (l .i) (omega arith)), l .inv .0, l .inv .1)
 
 pub before-feed-spec : {M : Type 1} → statement M
 before-feed-spec =

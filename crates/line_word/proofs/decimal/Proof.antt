@@ -25,13 +25,13 @@ shared-slice-read-b c = search needs
 returns : tie.Need-returns Inv-loop μ-loop
 returns c =
     let l = c .before .before .before .loop in
-    let s = c .before .before .before .before .args .s .now in
+    let s = c .before .before .before .before .args .digits .now in
     sym (ap told (l .inv .2 ∙ below-digits s (l .value) (l .i) (omega arith) (omega arith)))
 
 returns-2 : tie.Need-returns-2 Inv-loop μ-loop
 returns-2 c =
     let l = c .before .before .before .before .loop in
-    let s = c .before .before .before .before .before .args .s .now in
+    let s = c .before .before .before .before .before .args .digits .now in
     sym (ap told (l .inv .2 ∙ above-digits s (l .value) (l .i) (omega arith) (omega arith) (omega arith)))
 
 mul-value : tie.Need-mul-value Inv-loop μ-loop
@@ -46,7 +46,7 @@ add-value c = search needs
 returns-3 : tie.Need-returns-3 Inv-loop μ-loop
 returns-3 c =
     let l = c .before .before .before .before .before .loop in
-    let s = c .before .before .before .before .before .before .args .s .now in
+    let s = c .before .before .before .before .before .before .args .digits .now in
     sym (ap told (l .inv .2 ∙ ap within (digit-more s (l .value) (l .i) (omega arith) (omega arith) (omega arith))
     ∙ stays-past (drop (l .i + 1) s) (l .value * 10 + (getD s (l .i) 0 - 48)) (omega arith)))
 
@@ -59,7 +59,7 @@ loop-less c = search needs
 loop-again : tie.Need-loop-again Inv-loop μ-loop
 loop-again c =
     let l = c .before .before .before .before .before .loop in
-    let s = c .before .before .before .before .before .before .args .s .now in
+    let s = c .before .before .before .before .before .before .args .digits .now in
     (omega arith, omega arith, l .inv .2 ∙ ap within (digit-more s (l .value) (l .i) (omega arith) (omega arith) (omega arith)))
 
 cast-t11 : tie.Need-cast-t11 Inv-loop μ-loop
@@ -68,7 +68,7 @@ cast-t11 c = search needs
 returns-4 : tie.Need-returns-4 Inv-loop μ-loop
 returns-4 c =
     let l = c .before .loop in
-    sym (ap told (l .inv .2 ∙ digits-end (c .before .before .args .s .now) (l .value) (l .i) (omega arith) (l .inv .1)))
+    sym (ap told (l .inv .2 ∙ digits-end (c .before .before .args .digits .now) (l .value) (l .i) (omega arith) (l .inv .1)))
 
 pub decimal-spec : {M : Type 1} → statement M
 decimal-spec =

@@ -51,8 +51,8 @@ loop-again : tie.Need-loop-again Inv-loop μ-loop
 loop-again c =
     let l = c .before .before .before .before .loop in
     let g = c .before .before .before .before .before .before .before .args in
-    let v : c .pair .result ≡ getD (hexBytes (g .s .now)) (l .i) 0 = c .pair .ensures ∙ sym (hex-at (g .s .now) (l .i) (omega arith)) in
-    (omega arith, simp length-set (l .inv .1), rw (l .inv .2, v) (laid-more (hexBytes (g .s .now)) (g .out .now) (l .i) (omega (arith, hex-count (g .s .now))) (omega arith)))
+    let v : c .pair .result ≡ getD (hexBytes (g .digits .now)) (l .i) 0 = c .pair .ensures ∙ sym (hex-at (g .digits .now) (l .i) (omega arith)) in
+    (omega arith, simp length-set (l .inv .1), rw (l .inv .2, v) (laid-more (hexBytes (g .digits .now)) (g .out .now) (l .i) (omega (arith, hex-count (g .digits .now))) (omega arith)))
 
 same-length : tie.Need-same-length Inv-loop μ-loop
 same-length c = c .before .loop .inv .1
@@ -61,8 +61,8 @@ returns : tie.Need-returns Inv-loop μ-loop
 returns c =
     let l = c .before .loop in
     let g = c .before .before .before .before .args in
-    let all : l .i ≡ length (g .s .now) / 2 = omega arith in
-    l .inv .2 ∙ rw (all, take-all (length (g .s .now) / 2) (hexBytes (g .s .now)) (omega (arith, hex-count (g .s .now))))
+    let all : l .i ≡ length (g .digits .now) / 2 = omega arith in
+    l .inv .2 ∙ rw (all, take-all (length (g .digits .now) / 2) (hexBytes (g .digits .now)) (omega (arith, hex-count (g .digits .now))))
 
 pub hex-bytes-spec : {M : Type 1} → statement M
 hex-bytes-spec =

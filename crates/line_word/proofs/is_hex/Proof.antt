@@ -33,7 +33,7 @@ hex-digit-requires c κs = search needs
 returns : tie.Need-returns Inv-loop μ-loop
 returns c =
     let l = c .before .before .before .before .loop in
-    let s = c .before .before .before .before .before .before .args .s .now in
+    let s = c .before .before .before .before .before .before .args .digits .now in
     sym (l .inv .1 ∙ hex-first s (l .i) (omega arith) (sym (c .before .hex-digit .ensures) ∙ c .if1 .taken))
 
 add-hex-digit : tie.Need-add-hex-digit Inv-loop μ-loop
@@ -49,7 +49,7 @@ returns-2 : tie.Need-returns-2 Inv-loop μ-loop
 returns-2 c =
     let one = c .before .before .before in
     let l = one .before .before .before .before .loop in
-    let s = one .before .before .before .before .before .before .args .s .now in
+    let s = one .before .before .before .before .before .before .args .digits .now in
     sym (l .inv .1 ∙ hex-second s (l .i) (omega arith) (λ e. one .if1 .left (one .before .hex-digit .ensures ∙ e)) (sym (c .before .hex-digit2 .ensures) ∙ c .if2 .taken))
 
 add-i : tie.Need-add-i Inv-loop μ-loop
@@ -62,13 +62,13 @@ loop-again : tie.Need-loop-again Inv-loop μ-loop
 loop-again c =
     let one = c .before .before .before in
     let l = one .before .before .before .before .loop in
-    let s = one .before .before .before .before .before .before .args .s .now in
+    let s = one .before .before .before .before .before .before .args .digits .now in
     (omega arith, l .inv .1 ∙ hex-more s (l .i) (omega arith) (λ e. one .if1 .left (one .before .hex-digit .ensures ∙ e)) (λ e. c .if2 .left (c .before .hex-digit2 .ensures ∙ e)))
 
 returns-3 : tie.Need-returns-3 Inv-loop μ-loop
 returns-3 c =
     let l = c .before .loop in
-    let s = c .before .before .before .args .s .now in
+    let s = c .before .before .before .args .digits .now in
     by-test (eqb (l .i) (length s))
     (λ q. q ∙ sym (l .inv .1 ∙ hex-end s (l .i) (omega (arith, eqb-true (l .i) (length s) q))))
     (λ q. q ∙ sym (l .inv .1 ∙ hex-left s (l .i) (omega (arith, eqb-false (l .i) (length s) q))))

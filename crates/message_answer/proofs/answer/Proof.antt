@@ -5,9 +5,8 @@ use Rattle.message_answer.proofs.answer.Tie as tie
 use Rattle.message.proofs.Answering.{block-is, refused-answers, gate-refused}
 use Rattle.message.proofs.Gating.{gate-served, gate-connected, gate-small}
 use Rattle.message.specs.Message.{kindOf}
-use Rattle.fetch.specs.Ready.{rowsOf}
+use Rattle.catalogue.specs.Plain.{rowsOf, catalogue}
 use Rattle.table.specs.Seat.{seatOf}
-use Rattle.catalogue.specs.Plain.{catalogue}
 use native.Mathlib.Omega.{arith}
 use mathlib.Core.Path.{sym, ap, _∙_}
 
@@ -25,7 +24,7 @@ gate-requires c κs =
 refuse-requires : tie.Need-refuse-requires
 refuse-requires c κs =
     let a = c .before .before .before .before .before .before .before .before .before .before .before in
-    (omega (arith, a .pre .0 .room), omega (arith, c .before .before .gate .ensures, gate-small (seatOf (a .args .block .now)) (a .args .m .now)))
+    (omega (arith, a .pre .0 .room), omega (arith, c .before .before .gate .ensures, gate-small (seatOf (a .args .seat .now)) (a .args .message .now)))
 
 same-length : tie.Need-same-length
 same-length c = search needs
@@ -36,22 +35,22 @@ same-length-2 c = search needs
 returns : tie.Need-returns
 returns c =
     let a = c .before .before .before .before .before .before .before .before .before .before .before .before .before .before in
-    let b = a .args .block .now in
-    let m = a .args .m .now in
-    refused-answers (rowsOf (catalogue (a .args .s .now))) b m (a .args .reply .now) _ _ _ _ (block-is b m (a .args .reply .now) (a .pre .0)) (c .before .before .before .before .before .before .before .before .word .ensures)
-    (gate-refused (rowsOf (catalogue (a .args .s .now))) b m _ (sym (c .before .before .before .before .before .gate .ensures)) (c .before .before .before .before .if1 .taken))
+    let b = a .args .seat .now in
+    let m = a .args .message .now in
+    refused-answers (rowsOf (catalogue (a .args .catalogue .now))) b m (a .args .reply .now) _ _ _ _ (block-is b m (a .args .reply .now) (a .pre .0)) (c .before .before .before .before .before .before .before .before .word .ensures)
+    (gate-refused (rowsOf (catalogue (a .args .catalogue .now))) b m _ (sym (c .before .before .before .before .before .gate .ensures)) (c .before .before .before .before .if1 .taken))
     (c .before .before .refuse .ensures .0)
     (c .before .before .refuse .ensures .1)
 
 disconnect-requires : tie.Need-disconnect-requires
 disconnect-requires c κs =
     let a = c .before .before .before .before .before .before .before .before .before .before .before .before .before in
-    let m = a .args .m .now in
+    let m = a .args .message .now in
     let k = c .before .before .before .before .before .before .kind .ensures ∙ ap kindOf (c .before .before .before .before .before .before .before .word .ensures) in
     let g = sym (c .before .before .before .before .gate .ensures) ∙ c .before .before .before .if1 .left in
     record {
       given = a .pre .0;
-      connected = gate-connected (a .args .block .now) m g;
+      connected = gate-connected (a .args .seat .now) m g;
       msg-is = c .before .before .before .before .before .before .before .word .ensures;
       kind-is = sym k ∙ c .before .before .if2 .taken;
       gated = g;
@@ -64,17 +63,17 @@ same-length-4 : tie.Need-same-length-4
 same-length-4 c = search needs
 
 returns-2 : tie.Need-returns-2
-returns-2 c = c .before .before .before .before .disconnect .ensures (rowsOf (catalogue (c .before .before .before .before .before .before .before .before .before .before .before .before .before .before .before .before .before .before .args .s .now)))
+returns-2 c = c .before .before .before .before .disconnect .ensures (rowsOf (catalogue (c .before .before .before .before .before .before .before .before .before .before .before .before .before .before .before .before .before .before .args .catalogue .now)))
 
 free-requires : tie.Need-free-requires
 free-requires c κs =
     let a = c .before .before .before .before .before .before .before .before .before .before .before .before .before .before in
-    let m = a .args .m .now in
+    let m = a .args .message .now in
     let k = c .before .before .before .before .before .before .before .kind .ensures ∙ ap kindOf (c .before .before .before .before .before .before .before .before .word .ensures) in
     let g = sym (c .before .before .before .before .before .gate .ensures) ∙ c .before .before .before .before .if1 .left in
     record {
       given = a .pre .0;
-      connected = gate-connected (a .args .block .now) m g;
+      connected = gate-connected (a .args .seat .now) m g;
       msg-is = c .before .before .before .before .before .before .before .before .word .ensures;
       kind-is = sym k ∙ c .before .before .if3 .taken;
       gated = g;
@@ -87,17 +86,17 @@ same-length-6 : tie.Need-same-length-6
 same-length-6 c = search needs
 
 returns-3 : tie.Need-returns-3
-returns-3 c = c .before .before .before .before .free .ensures (rowsOf (catalogue (c .before .before .before .before .before .before .before .before .before .before .before .before .before .before .before .before .before .before .before .args .s .now)))
+returns-3 c = c .before .before .before .before .free .ensures (rowsOf (catalogue (c .before .before .before .before .before .before .before .before .before .before .before .before .before .before .before .before .before .before .before .args .catalogue .now)))
 
 fetch-requires : tie.Need-fetch-requires
 fetch-requires c κs =
     let a = c .before .before .before .before .before .before .before .before .before .before .before .before .before .before .before in
-    let m = a .args .m .now in
+    let m = a .args .message .now in
     let k = c .before .before .before .before .before .before .before .before .kind .ensures ∙ ap kindOf (c .before .before .before .before .before .before .before .before .before .word .ensures) in
     let g = sym (c .before .before .before .before .before .before .gate .ensures) ∙ c .before .before .before .before .before .if1 .left in (
       record {
         given = a .pre .0;
-        connected = gate-connected (a .args .block .now) m g;
+        connected = gate-connected (a .args .seat .now) m g;
         msg-is = c .before .before .before .before .before .before .before .before .before .word .ensures;
         kind-is = sym k ∙ c .before .before .if4 .taken;
         gated = g;
@@ -117,14 +116,14 @@ returns-4 c = search needs
 bind-requires : tie.Need-bind-requires
 bind-requires c κs =
     let a = c .before .before .before .before .before .before .before .before .before .before .before .before .before .before .before in
-    let m = a .args .m .now in
+    let m = a .args .message .now in
     let k = c .before .before .before .before .before .before .before .before .kind .ensures ∙ ap kindOf (c .before .before .before .before .before .before .before .before .before .word .ensures) in
     let g = sym (c .before .before .before .before .before .before .gate .ensures) ∙ c .before .before .before .before .before .if1 .left in
     record {
       given = a .pre .0;
-      connected = gate-connected (a .args .block .now) m g;
+      connected = gate-connected (a .args .seat .now) m g;
       msg-is = c .before .before .before .before .before .before .before .before .before .word .ensures;
-      kind-is = omega (arith, k, gate-served (a .args .block .now) m g, c .before .before .before .before .if2 .left, c .before .before .before .if3 .left, c .before .before .if4 .left);
+      kind-is = omega (arith, k, gate-served (a .args .seat .now) m g, c .before .before .before .before .if2 .left, c .before .before .before .if3 .left, c .before .before .if4 .left);
       gated = g;
     }
 
@@ -135,7 +134,7 @@ same-length-10 : tie.Need-same-length-10
 same-length-10 c = search needs
 
 returns-5 : tie.Need-returns-5
-returns-5 c = c .before .before .before .before .bind .ensures (rowsOf (catalogue (c .before .before .before .before .before .before .before .before .before .before .before .before .before .before .before .before .before .before .before .before .args .s .now)))
+returns-5 c = c .before .before .before .before .bind .ensures (rowsOf (catalogue (c .before .before .before .before .before .before .before .before .before .before .before .before .before .before .before .before .before .before .before .before .args .catalogue .now)))
 
 pub answer-spec : {M : Type 1} → statement M
 answer-spec =

@@ -27,8 +27,8 @@ same-length c = search needs
 returns : tie.Need-returns
 returns c = λ rows.
     let a = c .before .before .before .before .before .before .before .before .before .before .before in
-    let b = a .args .block .now in
-    let m = a .args .m .now in
+    let b = a .args .seat .now in
+    let m = a .args .message .now in
     refused-answers rows b m (a .args .reply .now) _ (a .args .msg) 9 _ (block-is b m (a .args .reply .now) (a .pre .given)) (a .pre .msg-is)
     (body-refused b m (a .args .reply .now) (a .args .msg) 3 (a .pre) rows 9 (not-read b m (a .args .reply .now) (a .args .msg) (a .pre) rows (told-none m _ _ (c .before .before .before .before .before .before .read .ensures) (c .before .before .before .before .if1 .taken))) (λ z. omega arith))
     (c .before .before .refuse .ensures .0)
@@ -49,8 +49,8 @@ same-length-3 c = search needs
 returns-2 : tie.Need-returns-2
 returns-2 c = λ rows.
     let a = c .before .before .before .before .before .before .before .before .before .before .before .before .before .before in
-    let b = a .args .block .now in
-    let m = a .args .m .now in
+    let b = a .args .seat .now in
+    let m = a .args .message .now in
     let x = told-some m _ _ (c .before .before .before .before .before .before .before .before .before .read .ensures) (c .before .before .before .before .before .before .before .if1 .left) in
     refused-answers rows b m (a .args .reply .now) _ (a .args .msg) 10 _ (block-is b m (a .args .reply .now) (a .pre .given)) (a .pre .msg-is)
     (body-refused b m (a .args .reply .now) (a .args .msg) 3 (a .pre) rows 10 (not-opened b m (a .args .reply .now) (a .args .msg) (a .pre) rows (x .0) (x .1 .is) (ap (λ (h : ℕ). isOpen (cursorIn (seatIn b) h)) (sym (x .1 .handle)) ∙ sym (c .before .before .before .before .before .is-open .ensures) ∙ not-true _ (c .before .before .before .before .if2 .taken))) (λ z. omega arith))
@@ -75,8 +75,8 @@ same-length-5 c = search needs
 returns-3 : tie.Need-returns-3
 returns-3 c = λ rows.
     let a = c .before .before .before .before .before .before .before .before .before .before .before .before .before .before .before .before .before in
-    let b = a .args .block .now in
-    let m = a .args .m .now in
+    let b = a .args .seat .now in
+    let m = a .args .message .now in
     let x = told-some m _ _ (c .before .before .before .before .before .before .before .before .before .before .before .before .read .ensures) (c .before .before .before .before .before .before .before .before .before .before .if1 .left) in
     refused-answers rows b m (a .args .reply .now) _ (a .args .msg) 12 _ (block-is b m (a .args .reply .now) (a .pre .given)) (a .pre .msg-is)
     (body-refused b m (a .args .reply .now) (a .args .msg) 3 (a .pre) rows 12 (not-fit b m (a .args .reply .now) (a .args .msg) (a .pre) rows (x .0) (x .1 .is) (ap (λ (h : ℕ). isOpen (cursorIn (seatIn b) h)) (sym (x .1 .handle)) ∙ sym (c .before .before .before .before .before .before .before .before .is-open .ensures) ∙ not-false _ (c .before .before .before .before .before .before .before .if2 .left))
@@ -102,8 +102,8 @@ same-length-7 c = search needs
 returns-4 : tie.Need-returns-4
 returns-4 c = λ rows.
     let a = c .before .before .before .before .before .before .before .before .before .before .before .before .before .before .before .before .before .before .before .before .before .before in
-    let b = a .args .block .now in
-    let m = a .args .m .now in
+    let b = a .args .seat .now in
+    let m = a .args .message .now in
     let x = told-some m _ _ (c .before .before .before .before .before .before .before .before .before .before .before .before .before .before .before .before .before .read .ensures) (c .before .before .before .before .before .before .before .before .before .before .before .before .before .before .before .if1 .left) in
     bound-answers b m (a .args .reply .now) (a .args .msg) (a .pre) rows (x .0) (x .1 .is) (ap (λ (h : ℕ). isOpen (cursorIn (seatIn b) h)) (sym (x .1 .handle)) ∙ sym (c .before .before .before .before .before .before .before .before .before .before .before .before .before .is-open .ensures) ∙ not-false _ (c .before .before .before .before .before .before .before .before .before .before .before .before .if2 .left))
     (sym (told-fit m _ _ (x .0) (c .before .before .before .before .before .before .before .before .before .before .before .before .before .before .before .before .before .read .ensures) (x .1 .is)) ∙ sym (c .before .before .before .before .before .before .before .before .before .before .fit .ensures) ∙ not-false _ (c .before .before .before .before .before .before .before .before .before .if3 .left))

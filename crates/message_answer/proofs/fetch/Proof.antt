@@ -5,11 +5,10 @@ use Rattle.message_answer.proofs.fetch.Tie as tie
 use Rattle.message.proofs.Rows.{not-asked, rows-closed, found-inside, ready-at, refusal-small, refused-at, answered-at}
 use Rattle.message.proofs.Answering.{block-is, refused-answers, body-refused}
 use Rattle.table.specs.Open.{isOpen}
-use Rattle.fetch.specs.Ready.{rowsOf}
+use Rattle.catalogue.specs.Plain.{rowsOf, catalogue}
 use Rattle.fetch.proofs.Ranges.{request-handle, asked-is, malformed-is}
 use Rattle.fetch.specs.Request.{request}
 use Rattle.table.specs.Seat.{seatIn, cursorIn}
-use Rattle.catalogue.specs.Plain.{catalogue}
 use borrow.Author.Tests.{not-true, not-false}
 use native.Mathlib.Omega.{arith}
 use Prim.Native.Nat.{ℕ}
@@ -33,9 +32,9 @@ same-length c = search needs
 returns : tie.Need-returns
 returns c =
     let a = c .before .before .before .before .before .before .before .before .before .before .before .before in
-    let b = a .args .block .now in
-    let m = a .args .m .now in
-    let s = a .args .s .now in
+    let b = a .args .seat .now in
+    let m = a .args .message .now in
+    let s = a .args .catalogue .now in
     let reply = a .args .reply .now in
     let msg = a .args .msg in
     refused-answers (rowsOf (catalogue s)) b m reply _ msg 9 _ (block-is b m reply (a .pre .0 .given)) (a .pre .0 .msg-is)
@@ -60,9 +59,9 @@ same-length-3 c = search needs
 returns-2 : tie.Need-returns-2
 returns-2 c =
     let a = c .before .before .before .before .before .before .before .before .before .before .before .before .before .before .before .before in
-    let b = a .args .block .now in
-    let m = a .args .m .now in
-    let s = a .args .s .now in
+    let b = a .args .seat .now in
+    let m = a .args .message .now in
+    let s = a .args .catalogue .now in
     let reply = a .args .reply .now in
     let msg = a .args .msg in
     let e = asked-is (request m) (sym (c .before .before .before .before .before .before .before .before .before .before .read .ensures) ∙ c .before .before .before .before .before .before .before .before .q .given .1) in
@@ -80,16 +79,16 @@ cursor-at-requires c κs = search needs
 add-end : tie.Need-add-end
 add-end c =
     let a = c .before .before .before .before .before .before .before .before .before .before .before .before .before in
-    let m = a .args .m .now in
+    let m = a .args .message .now in
     let e = asked-is (request m) (sym (c .before .before .before .before .before .before .before .read .ensures) ∙ c .before .before .before .before .before .q .given .1) in
-    omega (arith, a .pre .0 .given .size, found-inside (a .args .block .now) m (a .args .reply .now) (a .args .msg) (a .pre .0) (a .args .s .now) (a .args .places .now) (a .pre .1) _ e _ (c .cursor-at .ensures))
+    omega (arith, a .pre .0 .given .size, found-inside (a .args .seat .now) m (a .args .reply .now) (a .args .msg) (a .pre .0) (a .args .catalogue .now) (a .args .places .now) (a .pre .1) _ e _ (c .cursor-at .ensures))
 
 mul-fetch : tie.Need-mul-fetch
 mul-fetch c =
     let a = c .before .before .before .before .before .before .before .before .before .before .before .before .before in
-    let m = a .args .m .now in
+    let m = a .args .message .now in
     let e = asked-is (request m) (sym (c .before .before .before .before .before .before .before .read .ensures) ∙ c .before .before .before .before .before .q .given .1) in
-    omega (arith, a .pre .0 .given .size, found-inside (a .args .block .now) m (a .args .reply .now) (a .args .msg) (a .pre .0) (a .args .s .now) (a .args .places .now) (a .pre .1) _ e _ (c .cursor-at .ensures))
+    omega (arith, a .pre .0 .given .size, found-inside (a .args .seat .now) m (a .args .reply .now) (a .args .msg) (a .pre .0) (a .args .catalogue .now) (a .args .places .now) (a .pre .1) _ e _ (c .cursor-at .ensures))
 
 sub-fetch : tie.Need-sub-fetch
 sub-fetch c = search needs
@@ -100,16 +99,16 @@ part-fetch-start c = search needs
 part-fetch-end : tie.Need-part-fetch-end
 part-fetch-end c =
     let a = c .before .before .before .before .before .before .before .before .before .before .before .before .before in
-    let m = a .args .m .now in
+    let m = a .args .message .now in
     let e = asked-is (request m) (sym (c .before .before .before .before .before .before .before .read .ensures) ∙ c .before .before .before .before .before .q .given .1) in
-    omega (arith, a .pre .0 .given .size, found-inside (a .args .block .now) m (a .args .reply .now) (a .args .msg) (a .pre .0) (a .args .s .now) (a .args .places .now) (a .pre .1) _ e _ (c .cursor-at .ensures))
+    omega (arith, a .pre .0 .given .size, found-inside (a .args .seat .now) m (a .args .reply .now) (a .args .msg) (a .pre .0) (a .args .catalogue .now) (a .args .places .now) (a .pre .1) _ e _ (c .cursor-at .ensures))
 
 fetch-requires : tie.Need-fetch-requires
 fetch-requires c κs =
     let a = c .before .before .before .before .before .before .before .before .before .before .before .before .before .before .before in
-    let b = a .args .block .now in
-    let m = a .args .m .now in
-    let s = a .args .s .now in
+    let b = a .args .seat .now in
+    let m = a .args .message .now in
+    let s = a .args .catalogue .now in
     let reply = a .args .reply .now in
     let msg = a .args .msg in
     let e = asked-is (request m) (sym (c .before .before .before .before .before .before .before .before .before .read .ensures) ∙ c .before .before .before .before .before .before .before .q .given .1) in
@@ -118,9 +117,9 @@ fetch-requires c κs =
 refuse-requires-3 : tie.Need-refuse-requires-3
 refuse-requires-3 c κs =
     let a = c .before .before .before .before .before .before .before .before .before .before .before .before .before .before .before .before .before .before .before .before .before .before in
-    let b = a .args .block .now in
-    let m = a .args .m .now in
-    let s = a .args .s .now in
+    let b = a .args .seat .now in
+    let m = a .args .message .now in
+    let s = a .args .catalogue .now in
     let reply = a .args .reply .now in
     let msg = a .args .msg in
     let e = asked-is (request m) (sym (c .before .before .before .before .before .before .before .before .before .before .before .before .before .before .before .before .read .ensures) ∙ c .before .before .before .before .before .before .before .before .before .before .before .before .before .before .q .given .1) in
@@ -135,9 +134,9 @@ same-length-5 c = search needs
 returns-3 : tie.Need-returns-3
 returns-3 c =
     let a = c .before .before .before .before .before .before .before .before .before .before .before .before .before .before .before .before .before .before .before .before .before .before .before .before .before in
-    let b = a .args .block .now in
-    let m = a .args .m .now in
-    let s = a .args .s .now in
+    let b = a .args .seat .now in
+    let m = a .args .message .now in
+    let s = a .args .catalogue .now in
     let reply = a .args .reply .now in
     let msg = a .args .msg in
     let e = asked-is (request m) (sym (c .before .before .before .before .before .before .before .before .before .before .before .before .before .before .before .before .before .before .before .read .ensures) ∙ c .before .before .before .before .before .before .before .before .before .before .before .before .before .before .before .before .before .q .given .1) in
@@ -154,9 +153,9 @@ same-length-7 c = search needs
 returns-4 : tie.Need-returns-4
 returns-4 c =
     let a = c .before .before .before .before .before .before .before .before .before .before .before .before .before .before .before .before .before .before .before .before .before in
-    let b = a .args .block .now in
-    let m = a .args .m .now in
-    let s = a .args .s .now in
+    let b = a .args .seat .now in
+    let m = a .args .message .now in
+    let s = a .args .catalogue .now in
     let reply = a .args .reply .now in
     let msg = a .args .msg in
     let e = asked-is (request m) (sym (c .before .before .before .before .before .before .before .before .before .before .before .before .before .before .before .read .ensures) ∙ c .before .before .before .before .before .before .before .before .before .before .before .before .before .q .given .1) in

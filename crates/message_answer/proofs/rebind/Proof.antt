@@ -38,7 +38,7 @@ same-length c = search needs
 returns : tie.Need-returns
 returns c =
     let a = c .before .before .before .before .before .before .before .args in
-    let b = a .block .now in
+    let b = a .seat .now in
     let at = c .before .before .before .before .cursor-at .result in
     put-is b at (c .before .before .bind .last .0)
     ∙ ap (put b at cursorSize)

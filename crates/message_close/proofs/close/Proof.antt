@@ -40,7 +40,7 @@ same-length c = search needs
 returns : tie.Need-returns
 returns c =
     let a = c .before .before .before .before .before .before in
-    let b = a .args .block .now in
+    let b = a .args .seat .now in
     let at = c .before .before .before .before .cursor-at .result in
     let inside : at + cursorSize ≤ length b = omega (arith, a .pre, c .before .before .before .before .cursor-at .ensures, place-inside (a .args .handle)) in
     put-is b at (c .before .before .clear .last .0)

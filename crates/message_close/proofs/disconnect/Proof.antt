@@ -15,8 +15,8 @@ same-length c = search needs
 returns : tie.Need-returns
 returns c = λ rows.
     let a = c .before .before .before .before .before .before .before .before in
-    let b = a .args .block .now in
-    let m = a .args .m .now in
+    let b = a .args .seat .now in
+    let m = a .args .message .now in
     refused-answers rows b m (a .args .reply .now) _ (a .args .msg) 9 _ (block-is b m (a .args .reply .now) (a .pre .given)) (a .pre .msg-is)
     (body-refused b m (a .args .reply .now) (a .args .msg) 0 (a .pre) rows 9 (body-there b m (a .args .reply .now) (a .args .msg) (a .pre) rows (c .before .before .before .before .if1 .taken)) (λ z. omega arith))
     (c .before .before .refuse .ensures .0)
@@ -31,7 +31,7 @@ same-length-2 c = search needs
 returns-2 : tie.Need-returns-2
 returns-2 c = λ rows.
     let a = c .before .before .before .before .before .before .before .before in
-    disconnected (a .args .block .now) (a .args .m .now) (a .args .reply .now) (a .args .msg) (a .pre) rows (c .before .before .before .before .if1 .left) _ (c .before .before .clear .ensures)
+    disconnected (a .args .seat .now) (a .args .message .now) (a .args .reply .now) (a .args .msg) (a .pre) rows (c .before .before .before .before .if1 .left) _ (c .before .before .clear .ensures)
 
 pub disconnect-spec : {M : Type 1} → statement M
 disconnect-spec =

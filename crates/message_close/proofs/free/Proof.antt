@@ -25,8 +25,8 @@ same-length c = search needs
 returns : tie.Need-returns
 returns c = λ rows.
     let a = c .before .before .before .before .before .before .before .before in
-    let b = a .args .block .now in
-    let m = a .args .m .now in
+    let b = a .args .seat .now in
+    let m = a .args .message .now in
     refused-answers rows b m (a .args .reply .now) _ (a .args .msg) 9 _ (block-is b m (a .args .reply .now) (a .pre .given)) (a .pre .msg-is)
     (body-refused b m (a .args .reply .now) (a .args .msg) 1 (a .pre) rows 9 (not-four b m (a .args .reply .now) (a .args .msg) (a .pre) rows (c .before .before .before .before .if1 .taken)) (λ z. omega arith))
     (c .before .before .refuse .ensures .0)
@@ -50,8 +50,8 @@ same-length-3 c = search needs
 returns-2 : tie.Need-returns-2
 returns-2 c = λ rows.
     let a = c .before .before .before .before .before .before .before .before .before .before .before .before in
-    let b = a .args .block .now in
-    let m = a .args .m .now in
+    let b = a .args .seat .now in
+    let m = a .args .message .now in
     refused-answers rows b m (a .args .reply .now) _ (a .args .msg) 10 _ (block-is b m (a .args .reply .now) (a .pre .given)) (a .pre .msg-is)
     (body-refused b m (a .args .reply .now) (a .args .msg) 1 (a .pre) rows 10 (not-open b m (a .args .reply .now) (a .args .msg) (a .pre) rows (c .before .before .before .before .before .before .before .before .if1 .left)
     (ap (λ (h : ℕ). isOpen (cursorIn (seatIn b) h)) (sym (c .before .before .before .before .before .before .before .word .ensures)) ∙ sym (c .before .before .before .before .before .is-open .ensures) ∙ not-true _ (c .before .before .before .before .if2 .taken))) (λ z. omega arith))
@@ -82,8 +82,8 @@ same-length-5 c = search needs
 returns-3 : tie.Need-returns-3
 returns-3 c = λ rows.
     let a = c .before .before .before .before .before .before .before .before .before .before .before .before .before .before .before .before .before .before .before .before .before .before in
-    let b = a .args .block .now in
-    freed-answers b (a .args .m .now) (a .args .reply .now) (a .args .msg) (a .pre) rows (c .before .before .before .before .before .before .before .before .before .before .before .before .before .before .before .before .before .before .if1 .left)
+    let b = a .args .seat .now in
+    freed-answers b (a .args .message .now) (a .args .reply .now) (a .args .msg) (a .pre) rows (c .before .before .before .before .before .before .before .before .before .before .before .before .before .before .before .before .before .before .if1 .left)
     (ap (λ (h : ℕ). isOpen (cursorIn (seatIn b) h)) (sym (c .before .before .before .before .before .before .before .before .before .before .before .before .before .before .before .before .before .word .ensures)) ∙ sym (c .before .before .before .before .before .before .before .before .before .before .before .before .before .before .before .is-open .ensures) ∙ not-false _ (c .before .before .before .before .before .before .before .before .before .before .before .before .before .before .if2 .left))
     _
     _

@@ -14,16 +14,16 @@ field-requires c κs = search needs
 
 room-of-requires : tie.Need-room-of-requires
 room-of-requires c κs = let a = c .before .before .before .args in
-    rw (c .field .ensures) (field-small (a .column .property) (a .fields) (stand-small (a .s .now) (a .fields) (c .before .before .before .pre .stands)))
+    rw (c .field .ensures) (field-small (a .column .property) (a .fields) (stand-small (a .catalogue .now) (a .fields) (c .before .before .before .pre .stands)))
 
 sub-place : tie.Need-sub-place
 sub-place c = let a = c .before .before .before .before .args in let p = c .before .before .before .before .pre in
-    omega (arith, c .room-of .ensures (a .s .now) (found-stands (a .s .now) (a .fields) (a .column) (c .before .field .result) (p .stands) (c .before .field .ensures)), found-room (a .s .now) (a .fields) (a .column) (c .before .field .result) (p .stands) (c .before .field .ensures), p .room)
+    omega (arith, c .room-of .ensures (a .catalogue .now) (found-stands (a .catalogue .now) (a .fields) (a .column) (c .before .field .result) (p .stands) (c .before .field .ensures)), found-room (a .catalogue .now) (a .fields) (a .column) (c .before .field .result) (p .stands) (c .before .field .ensures), p .room)
 
 lay-block-requires : tie.Need-lay-block-requires
 lay-block-requires c κs = let a = c .before .before .before .before .before .args in let p = c .before .before .before .before .before .pre in
-    let stand = found-stands (a .s .now) (a .fields) (a .column) (c .before .before .field .result) (p .stands) (c .before .before .field .ensures) in
-    (stand, omega (arith, c .before .room-of .ensures (a .s .now) stand, found-room (a .s .now) (a .fields) (a .column) (c .before .before .field .result) (p .stands) (c .before .before .field .ensures), p .room, p .ends))
+    let stand = found-stands (a .catalogue .now) (a .fields) (a .column) (c .before .before .field .result) (p .stands) (c .before .before .field .ensures) in
+    (stand, omega (arith, c .before .room-of .ensures (a .catalogue .now) stand, found-room (a .catalogue .now) (a .fields) (a .column) (c .before .before .field .result) (p .stands) (c .before .before .field .ensures), p .room, p .ends))
 
 add-offset : tie.Need-add-offset
 add-offset c = let a = c .before .before .before .before .before .before .before .before .args in omega (arith, c .before .before .before .before .before .before .before .before .pre .offset)
@@ -47,7 +47,7 @@ lay-status-requires c κs = let a = c .before .before .before .before .before .b
 
 length-sent-requires : tie.Need-length-sent-requires
 length-sent-requires c κs = let a = c .before .before .before .before .before .before .before .before .before .before .before .before .before .before .before .before .before .before .before .before .args in
-    rw (c .before .before .before .before .before .before .before .before .before .before .before .before .before .before .before .before .before .field .ensures) (field-small (a .column .property) (a .fields) (stand-small (a .s .now) (a .fields) (c .before .before .before .before .before .before .before .before .before .before .before .before .before .before .before .before .before .before .before .before .pre .stands)))
+    rw (c .before .before .before .before .before .before .before .before .before .before .before .before .before .before .before .before .before .field .ensures) (field-small (a .column .property) (a .fields) (stand-small (a .catalogue .now) (a .fields) (c .before .before .before .before .before .before .before .before .before .before .before .before .before .before .before .before .before .before .before .before .pre .stands)))
 
 lay-length-requires : tie.Need-lay-length-requires
 lay-length-requires c κs = let a = c .before .before .before .before .before .before .before .before .before .before .before .before .before .before .before .before .before .before .before .before .before .args in
@@ -57,7 +57,7 @@ same-length : tie.Need-same-length
 same-length c = search needs
 
 returns : tie.Need-returns
-returns c = let a = c .before .before .before .before .before .before .before .before .before .before .before .before .before .before .before .before .before .before .before .before .before .before .before .before .args in let s = a .s .now in let p = c .before .before .before .before .before .before .before .before .before .before .before .before .before .before .before .before .before .before .before .before .before .before .before .before .pre in let found = c .before .before .before .before .before .before .before .before .before .before .before .before .before .before .before .before .before .before .before .before .before .field .result in
+returns c = let a = c .before .before .before .before .before .before .before .before .before .before .before .before .before .before .before .before .before .before .before .before .before .before .before .before .args in let s = a .catalogue .now in let p = c .before .before .before .before .before .before .before .before .before .before .before .before .before .before .before .before .before .before .before .before .before .before .before .before .pre in let found = c .before .before .before .before .before .before .before .before .before .before .before .before .before .before .before .before .before .before .before .before .before .field .result in
     let stand = found-stands s (a .fields) (a .column) found (p .stands) (c .before .before .before .before .before .before .before .before .before .before .before .before .before .before .before .before .before .before .before .before .before .field .ensures) in
     let room = c .before .before .before .before .before .before .before .before .before .before .before .before .before .before .before .before .before .before .before .before .room-of .ensures s stand ∙ found-room s (a .fields) (a .column) found (p .stands) (c .before .before .before .before .before .before .before .before .before .before .before .before .before .before .before .before .before .before .before .before .before .field .ensures) in (
       ap (λ (n : ℕ). a .top - n) room,

@@ -12,23 +12,23 @@ units-requires c κs = search needs
 
 lay-bytes-requires : tie.Need-lay-bytes-requires
 lay-bytes-requires c κs = let a = c .before .before .before .before .args in
-    omega (arith, units-length (a .s .now) (a .text) (c .before .before .before .before .pre .0), ap length (c .before .units .ensures))
+    omega (arith, units-length (a .catalogue .now) (a .text) (c .before .before .before .before .pre .0), ap length (c .before .units .ensures))
 
 add-end : tie.Need-add-end
 add-end c = let a = c .before .before .before .before .before .before .before .args in
-    omega (arith, units-length (a .s .now) (a .text) (c .before .before .before .before .before .before .before .pre .0), ap length (c .before .before .before .before .units .ensures), c .before .before .before .before .before .before .before .pre, c .before .before .before .before .before .before .before .good)
+    omega (arith, units-length (a .catalogue .now) (a .text) (c .before .before .before .before .before .before .before .pre .0), ap length (c .before .before .before .before .units .ensures), c .before .before .before .before .before .before .before .pre, c .before .before .before .before .before .before .before .good)
 
 lay-half-requires : tie.Need-lay-half-requires
 lay-half-requires c κs = let a = c .before .before .before .before .before .before .before .before .args in
-    omega (arith, units-length (a .s .now) (a .text) (c .before .before .before .before .before .before .before .before .pre .0), ap length (c .before .before .before .before .before .units .ensures), c .before .before .before .before .before .before .before .before .pre, c .before .before .before .lay-bytes .kept)
+    omega (arith, units-length (a .catalogue .now) (a .text) (c .before .before .before .before .before .before .before .before .pre .0), ap length (c .before .before .before .before .before .units .ensures), c .before .before .before .before .before .before .before .before .pre, c .before .before .before .lay-bytes .kept)
 
 same-length : tie.Need-same-length
 same-length c = search needs
 
 returns : tie.Need-returns
 returns c = let a = c .before .before .before .before .before .before .before .before .before .before .before .args in
-    let inside = units-length (a .s .now) (a .text) (c .before .before .before .before .before .before .before .before .before .before .before .pre .0) in
-    let h = text-laid (a .s .now) (a .text) (c .before .before .before .before .before .before .before .before .before .before .before .pre .0) (a .reply .now) (a .place) (λ i. omega (arith, c .before .before .before .before .before .before .before .before .before .shared-slice-known .given i)) (omega (arith, c .before .before .before .before .before .before .before .before .before .before .before .pre)) in
+    let inside = units-length (a .catalogue .now) (a .text) (c .before .before .before .before .before .before .before .before .before .before .before .pre .0) in
+    let h = text-laid (a .catalogue .now) (a .text) (c .before .before .before .before .before .before .before .before .before .before .before .pre .0) (a .reply .now) (a .place) (λ i. omega (arith, c .before .before .before .before .before .before .before .before .before .shared-slice-known .given i)) (omega (arith, c .before .before .before .before .before .before .before .before .before .before .before .pre)) in
     cc (c .before .before .before .before .before .before .before .before .units .ensures, c .before .before .before .before .before .before .lay-bytes .ensures, c .before .before .lay-half .ensures)
 
 pub lay-text-spec : {M : Type 1} → statement M

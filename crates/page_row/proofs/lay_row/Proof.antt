@@ -24,17 +24,17 @@ abbrev μ-loop : tie.MeasureT-loop
 
 loop-holds : tie.Need-loop-holds Inv-loop μ-loop
 loop-holds c = let a = c .before .before .before .args in
-    (omega arith, refl, omega arith, rw (fields-row (a .s .now) (a .at) ((a .fields)) (c .before .before .before .pre .read)) (c .before .before .before .pre .room), refl, refl)
+    (omega arith, refl, omega arith, rw (fields-row (a .catalogue .now) (a .at) ((a .fields)) (c .before .before .before .pre .read)) (c .before .before .before .pre .room), refl, refl)
 
 column-at-requires : tie.Need-column-at-requires Inv-loop μ-loop
 column-at-requires c κs = let p = c .before .before .before .before .before .pre in (p .given .long, omega (arith, p .given .few))
 
 lay-column-requires : tie.Need-lay-column-requires Inv-loop μ-loop
 lay-column-requires c κs = let a = c .before .before .before .before .before .before .before .args in let p = c .before .before .before .before .before .before .before .pre in let l = c .before .before .before .loop in let f = a .fields in
-    let more = blocks-more (l .left) (l .k) (a .words .now) (rowOf (a .s .now) f) (c .before .before .loop-test .taken) in
-    let same = ap (λ (d : Column). blockRoom d (rowOf (a .s .now) f)) (c .before .column-at .ensures) in
+    let more = blocks-more (l .left) (l .k) (a .records .now) (rowOf (a .catalogue .now) f) (c .before .before .loop-test .taken) in
+    let same = ap (λ (d : Column). blockRoom d (rowOf (a .catalogue .now) f)) (c .before .column-at .ensures) in
     record {
-      stands = fields-stand (a .s .now) (a .at) f (c .before .before .before .before .before .before .before .pre .read);
+      stands = fields-stand (a .catalogue .now) (a .at) f (c .before .before .before .before .before .before .before .pre .read);
       column = still-in (length (a .reply .now)) _ (a .row) (c .before .column-at .result) (sym (l .inv .1)) (rw (c .before .column-at .ensures) (p .columns (l .k) (omega arith)));
       room = omega (arith, more, same, l .inv .3);
       ends = omega (arith, l .inv .1, l .inv .2, p .ends);
@@ -51,8 +51,8 @@ loop-less : tie.Need-loop-less Inv-loop μ-loop
 loop-less c = search needs
 
 loop-again : tie.Need-loop-again Inv-loop μ-loop
-loop-again c = let a = c .before .before .before .before .before .before .before .before .before .before .args in let l = c .before .before .before .before .before .before .loop in let f = a .fields in let r = rowOf (a .s .now) f in
-    let more = blocks-more (l .left) (l .k) (a .words .now) r (c .before .before .before .before .before .loop-test .taken) in
+loop-again c = let a = c .before .before .before .before .before .before .before .before .before .before .args in let l = c .before .before .before .before .before .before .loop in let f = a .fields in let r = rowOf (a .catalogue .now) f in
+    let more = blocks-more (l .left) (l .k) (a .records .now) r (c .before .before .before .before .before .loop-test .taken) in
     let same = ap (λ (d : Column). blockRoom d r) (c .before .before .before .before .column-at .ensures) in
     let place = c .before .before .lay-column .ensures .0 in (
       omega arith,
@@ -60,17 +60,17 @@ loop-again c = let a = c .before .before .before .before .before .before .before
       omega (arith, place, l .inv .2),
       omega (arith, place, more, same, l .inv .3),
       omega (arith, place, more, same, l .inv .3, l .inv .4),
-      row-step (l .left) (l .k) (a .words .now) r (l .reply) (c .before .before .lay-column .last .0) (a .base) (a .row) (l .place) (c .before .before .lay-column .result) (c .before .before .before .before .column-at .result) (c .before .before .before .before .before .loop-test .taken) (c .before .before .before .before .column-at .ensures) place (c .before .before .lay-column .ensures .1) ∙ l .inv .5,
+      row-step (l .left) (l .k) (a .records .now) r (l .reply) (c .before .before .lay-column .last .0) (a .base) (a .row) (l .place) (c .before .before .lay-column .result) (c .before .before .before .before .column-at .result) (c .before .before .before .before .before .loop-test .taken) (c .before .before .before .before .column-at .ensures) place (c .before .before .lay-column .ensures .1) ∙ l .inv .5,
     )
 
 same-length : tie.Need-same-length Inv-loop μ-loop
 same-length c = c .before .loop .inv .1
 
 returns : tie.Need-returns Inv-loop μ-loop
-returns c = let a = c .before .before .before .before .before .args in let l = c .before .loop in let f = a .fields in let r = rowOf (a .s .now) f in
-    let none = blocks-none (l .left) (l .k) (a .words .now) r (omega arith) in
-    rw (← (fields-row (a .s .now) (a .at) f (c .before .before .before .before .before .pre .read)))
-    (omega (arith, none, l .inv .4), sym (spans-none (l .left) (l .k) (a .words .now) r (l .reply) (a .base) (a .row) (l .place) (omega arith)) ∙ l .inv .5)
+returns c = let a = c .before .before .before .before .before .args in let l = c .before .loop in let f = a .fields in let r = rowOf (a .catalogue .now) f in
+    let none = blocks-none (l .left) (l .k) (a .records .now) r (omega arith) in
+    rw (← (fields-row (a .catalogue .now) (a .at) f (c .before .before .before .before .before .pre .read)))
+    (omega (arith, none, l .inv .4), sym (spans-none (l .left) (l .k) (a .records .now) r (l .reply) (a .base) (a .row) (l .place) (omega arith)) ∙ l .inv .5)
 
 pub lay-row-spec : {M : Type 1} → statement M
 lay-row-spec =

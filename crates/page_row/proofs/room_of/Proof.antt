@@ -12,7 +12,7 @@ place-of-requires : tie.Need-place-of-requires
 place-of-requires c κs = search needs
 
 fields-at-requires : tie.Need-fields-at-requires
-fields-at-requires c κs = let a = c .before .before .before .before .args in subst (RowThere (a .s .now)) (sym (c .place-of .ensures)) (c .before .before .before .before .pre .2)
+fields-at-requires c κs = let a = c .before .before .before .before .args in subst (RowThere (a .catalogue .now)) (sym (c .place-of .ensures)) (c .before .before .before .before .pre .2)
 
 row-blocks-requires : tie.Need-row-blocks-requires
 row-blocks-requires c κs = search needs
@@ -21,7 +21,7 @@ add-result : tie.Need-add-result
 add-result c = search needs
 
 returns : tie.Need-returns
-returns c = let a = c .before .before .before .before .before .before .args in ap (λ (n : ℕ). a .width + n) (c .row-blocks .ensures .0 ∙ ap (λ (k : ℕ). blocks (columnsOf (a .bound) (a .words .now)) (rowSeen (a .s .now) k)) (c .before .before .place-of .ensures))
+returns c = let a = c .before .before .before .before .before .before .args in ap (λ (n : ℕ). a .width + n) (c .row-blocks .ensures .0 ∙ ap (λ (k : ℕ). blocks (columnsOf (a .bound) (a .records .now)) (rowSeen (a .catalogue .now) k)) (c .before .before .place-of .ensures))
 
 pub room-of-spec : {M : Type 1} → statement M
 room-of-spec =

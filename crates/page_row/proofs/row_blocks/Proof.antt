@@ -29,12 +29,12 @@ column-at-requires c κs = let p = c .before .before .before .before .pre .0 in 
 
 block-room-requires : tie.Need-block-room-requires Inv-loop μ-loop
 block-room-requires c κs = let a = c .before .before .before .before .before .args in
-    stand-small (a .s .now) ((a .fields)) (fields-stand (a .s .now) (a .at) ((a .fields)) (c .before .before .before .before .before .pre .1))
+    stand-small (a .catalogue .now) ((a .fields)) (fields-stand (a .catalogue .now) (a .at) ((a .fields)) (c .before .before .before .before .before .pre .1))
 
 add-total : tie.Need-add-total Inv-loop μ-loop
 add-total c = let a = c .before .before .before .before .before .before .args in let f = a .fields in
-    let st = fields-stand (a .s .now) (a .at) f (c .before .before .before .before .before .before .pre .1) in
-    omega (arith, c .block-room .ensures (a .s .now) st, room-small (a .s .now) f (c .before .column-at .result) st, c .before .before .before .before .before .before .pre .0 .few)
+    let st = fields-stand (a .catalogue .now) (a .at) f (c .before .before .before .before .before .before .pre .1) in
+    omega (arith, c .block-room .ensures (a .catalogue .now) st, room-small (a .catalogue .now) f (c .before .column-at .result) st, c .before .before .before .before .before .before .pre .0 .few)
 
 add-k : tie.Need-add-k Inv-loop μ-loop
 add-k c = search needs
@@ -46,14 +46,14 @@ loop-less : tie.Need-loop-less Inv-loop μ-loop
 loop-less c = search needs
 
 loop-again : tie.Need-loop-again Inv-loop μ-loop
-loop-again c = let a = c .before .before .before .before .before .before .args in let f = a .fields in let l = c .before .before .before .loop in let r = rowOf (a .s .now) f in
-    let st = fields-stand (a .s .now) (a .at) f (c .before .before .before .before .before .before .pre .1) in
-    let room = c .block-room .ensures (a .s .now) st ∙ ap (λ (d : Column). blockRoom d r) (c .before .column-at .ensures) in
-    (omega arith, omega (arith, c .block-room .ensures (a .s .now) st, room-small (a .s .now) f (c .before .column-at .result) st), omega (arith, l .inv .2, room, blocks-more (l .left) (l .k) (a .words .now) r (c .before .before .loop-test .taken)))
+loop-again c = let a = c .before .before .before .before .before .before .args in let f = a .fields in let l = c .before .before .before .loop in let r = rowOf (a .catalogue .now) f in
+    let st = fields-stand (a .catalogue .now) (a .at) f (c .before .before .before .before .before .before .pre .1) in
+    let room = c .block-room .ensures (a .catalogue .now) st ∙ ap (λ (d : Column). blockRoom d r) (c .before .column-at .ensures) in
+    (omega arith, omega (arith, c .block-room .ensures (a .catalogue .now) st, room-small (a .catalogue .now) f (c .before .column-at .result) st), omega (arith, l .inv .2, room, blocks-more (l .left) (l .k) (a .records .now) r (c .before .before .loop-test .taken)))
 
 returns : tie.Need-returns Inv-loop μ-loop
 returns c = let a = c .before .before .before .before .args in let f = a .fields in let l = c .before .loop in
-    (rw (← (fields-row (a .s .now) (a .at) f (c .before .before .before .before .pre .1))) (omega (arith, l .inv .2, blocks-none (l .left) (l .k) (a .words .now) (rowOf (a .s .now) f) (omega arith))), omega (arith, c .before .before .before .before .pre .0 .few))
+    (rw (← (fields-row (a .catalogue .now) (a .at) f (c .before .before .before .before .pre .1))) (omega (arith, l .inv .2, blocks-none (l .left) (l .k) (a .records .now) (rowOf (a .catalogue .now) f) (omega arith))), omega (arith, c .before .before .before .before .pre .0 .few))
 
 pub row-blocks-spec : {M : Type 1} → statement M
 row-blocks-spec =

@@ -23,8 +23,8 @@ abbrev μ-loop : tie.MeasureT-loop
 loop-holds : tie.Need-loop-holds Inv-loop μ-loop
 loop-holds c =
     let a = c .before .before .before .before .before .args in
-    let columns = columnsOf (a .bound) (a .words .now) in
-    let rows = rowsAt (a .s .now) (a .places .now) (a .numbers .now) in (
+    let columns = columnsOf (a .bound) (a .records .now) in
+    let rows = rowsAt (a .catalogue .now) (a .places .now) (a .numbers .now) in (
       refl,
       omega arith,
       c .before .before .before .before .before .pre .0 .inside,
@@ -41,10 +41,10 @@ returns c =
     let a = c .before .before .before .before .before .before .before .before .args in
     let p = c .before .before .before .before .before .before .before .before .pre .0 in
     let l = c .before .before .loop in
-    let s = a .s .now in
+    let s = a .catalogue .now in
     let places = a .places .now in
     let numbers = a .numbers .now in
-    let columns = columnsOf (a .bound) (a .words .now) in
+    let columns = columnsOf (a .bound) (a .records .now) in
     lay-done (a .width) columns (l .reply) (a .reply .now) (a .base) (l .row) (l .top) (a .from) (a .size) _ (l .sent) _ (rowsAt s places (drop (l .sent) numbers)) (rowsAt s places numbers)
     (returned-left (a .width) columns (a .asked - l .sent) (l .top - l .row) (rowsAt s places (drop (l .sent) numbers)) (rows-none s places numbers (l .sent) (c .if1 .taken)))
     (l .inv .4)
@@ -60,7 +60,7 @@ place-of-requires : tie.Need-place-of-requires Inv-loop μ-loop
 place-of-requires c κs = search needs
 
 fields-at-requires : tie.Need-fields-at-requires Inv-loop μ-loop
-fields-at-requires c κs = let a = c .before .before .before .before .before .before .before .before .before .before .args in there-at (a .s .now) (a .places .now) (a .numbers .now) (c .before .before .before .before .loop .sent) _ (c .before .before .before .before .before .before .before .before .before .before .pre .1) (c .before .before .if1 .left) (c .place-of .ensures)
+fields-at-requires c κs = let a = c .before .before .before .before .before .before .before .before .before .before .args in there-at (a .catalogue .now) (a .places .now) (a .numbers .now) (c .before .before .before .before .loop .sent) _ (c .before .before .before .before .before .before .before .before .before .before .pre .1) (c .before .before .if1 .left) (c .place-of .ensures)
 
 row-blocks-requires : tie.Need-row-blocks-requires Inv-loop μ-loop
 row-blocks-requires c κs = (c .before .before .before .before .before .before .before .before .before .before .before .pre .0 .given, c .fields-at .ensures)
@@ -79,10 +79,10 @@ returns-2 c =
     let a = c .before .before .before .before .before .before .before .before .before .before .before .before .before .args in
     let p = c .before .before .before .before .before .before .before .before .before .before .before .before .before .pre .0 in
     let l = c .before .before .before .before .before .before .before .loop in
-    let s = a .s .now in
+    let s = a .catalogue .now in
     let places = a .places .now in
     let numbers = a .numbers .now in
-    let columns = columnsOf (a .bound) (a .words .now) in
+    let columns = columnsOf (a .bound) (a .records .now) in
     lay-done (a .width) columns (l .reply) (a .reply .now) (a .base) (l .row) (l .top) (a .from) (a .size) _ (l .sent) _ (rowsAt s places (drop (l .sent) numbers)) (rowsAt s places numbers)
     (count-full s places numbers (l .sent) (c .before .before .before .place-of .result) (c .before .before .before .before .before .if1 .left) (c .before .before .before .place-of .ensures) (a .width) columns (a .asked - l .sent) (l .top - l .row) (omega (arith, c .before .row-blocks .ensures .0, c .if2 .taken)))
     (l .inv .4)
@@ -93,14 +93,14 @@ lay-row-requires c κs =
     let a = c .before .before .before .before .before .before .before .before .before .before .before .before .before .before .args in
     let p = c .before .before .before .before .before .before .before .before .before .before .before .before .before .before .pre .0 in
     let l = c .before .before .before .before .before .before .before .before .loop in
-    let s = a .s .now in
+    let s = a .catalogue .now in
     let places = a .places .now in
     let numbers = a .numbers .now in
-    let columns = columnsOf (a .bound) (a .words .now) in
+    let columns = columnsOf (a .bound) (a .records .now) in
     record {
       read = c .before .before .before .fields-at .ensures;
       given = p .given;
-      columns = λ k h. column-in (a .width) _ (l .row) (columnAt (a .words .now) k) (omega (arith, l .inv, c .before .if2 .left, p .ends)) (p .columns k h);
+      columns = λ k h. column-in (a .width) _ (l .row) (columnAt (a .records .now) k) (omega (arith, l .inv, c .before .if2 .left, p .ends)) (p .columns k h);
       room = omega (arith, l .inv, c .before .if2 .left, c .before .before .row-blocks .ensures .0);
       ends = omega (arith, l .inv, p .ends);
       offset = omega (arith, l .inv, p .offset);
@@ -111,10 +111,10 @@ add-row c =
     let a = c .before .before .before .before .before .before .before .before .before .before .before .before .before .before .before .before .before .args in
     let p = c .before .before .before .before .before .before .before .before .before .before .before .before .before .before .before .before .before .pre .0 in
     let l = c .before .before .before .before .before .before .before .before .before .before .before .loop in
-    let s = a .s .now in
+    let s = a .catalogue .now in
     let places = a .places .now in
     let numbers = a .numbers .now in
-    let columns = columnsOf (a .bound) (a .words .now) in
+    let columns = columnsOf (a .bound) (a .records .now) in
     omega (arith, l .inv, c .before .before .before .before .if2 .left, p .ends, c .before .before .before .before .before .before .before .before .before .before .before .before .before .before .before .before .before .good .0)
 
 add-sent : tie.Need-add-sent Inv-loop μ-loop
@@ -128,10 +128,10 @@ loop-again c =
     let a = c .before .before .before .before .before .before .before .before .before .before .before .before .before .before .before .before .before .args in
     let p = c .before .before .before .before .before .before .before .before .before .before .before .before .before .before .before .before .before .pre .0 in
     let l = c .before .before .before .before .before .before .before .before .before .before .before .loop in
-    let s = a .s .now in
+    let s = a .catalogue .now in
     let places = a .places .now in
     let numbers = a .numbers .now in
-    let columns = columnsOf (a .bound) (a .words .now) in
+    let columns = columnsOf (a .bound) (a .records .now) in
     let at = c .before .before .before .before .before .before .before .place-of .result in
     let inside = c .before .before .before .before .before .before .before .before .before .if1 .left in
     let is = c .before .before .before .before .before .before .before .place-of .ensures in
@@ -155,10 +155,10 @@ returns-3 c =
     let a = c .before .before .before .before .before .before .before .args in
     let p = c .before .before .before .before .before .before .before .pre .0 in
     let l = c .before .loop in
-    let s = a .s .now in
+    let s = a .catalogue .now in
     let places = a .places .now in
     let numbers = a .numbers .now in
-    let columns = columnsOf (a .bound) (a .words .now) in
+    let columns = columnsOf (a .bound) (a .records .now) in
     lay-done (a .width) columns (l .reply) (a .reply .now) (a .base) (l .row) (l .top) (a .from) (a .size) _ (l .sent) _ (rowsAt s places (drop (l .sent) numbers)) (rowsAt s places numbers)
     (returned-asked (a .width) columns (a .asked - l .sent) (l .top - l .row) (rowsAt s places (drop (l .sent) numbers)) (omega (arith, l .inv .3, c .loop-test .left)))
     (l .inv .4)

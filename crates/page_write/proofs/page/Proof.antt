@@ -20,9 +20,9 @@ clear-first-requires c κs = search needs
 lay-rows-requires : tie.Need-lay-rows-requires
 lay-rows-requires c κs = let a = c .before .before .before .before .before .before .before .before .before .before .args in let p = c .before .before .before .before .before .before .before .before .before .before .pre .0 in (
   record {
-    given = record { long = p .long; few = bound-few (a .width) (a .bound) (a .words .now) (p .fits) };
-    narrow = fit-sound (a .width) (columnsOf (a .bound) (a .words .now)) (p .fits) .row .1;
-    columns = bound-in (a .width) (a .bound) (a .words .now) (p .fits);
+    given = record { long = p .long; few = bound-few (a .width) (a .bound) (a .records .now) (p .fits) };
+    narrow = fit-sound (a .width) (columnsOf (a .bound) (a .records .now)) (p .fits) .row .1;
+    columns = bound-in (a .width) (a .bound) (a .records .now) (p .fits);
     inside = p .inside;
     ends = omega (arith, p .ends, c .before .before .before .clear-first .kept .0);
     offset = p .offset;
@@ -32,14 +32,14 @@ lay-rows-requires c κs = let a = c .before .before .before .before .before .bef
 
 cast-lay-four : tie.Need-cast-lay-four
 cast-lay-four c = let a = c .before .before .before .before .before .before .before .before .before .before .before .before .before .before .args in let p = c .before .before .before .before .before .before .before .before .before .before .before .before .before .before .pre .0 in
-    omega (arith, p .few, returned-few (a .size) (a .from) (a .width) (columnsOf (a .bound) (a .words .now)) (a .asked) (a .s .now) (a .places .now) (a .numbers .now) (c .before .before .before .lay-rows .result) (p .inside) (c .before .before .before .lay-rows .ensures .0))
+    omega (arith, p .few, returned-few (a .size) (a .from) (a .width) (columnsOf (a .bound) (a .records .now)) (a .asked) (a .catalogue .now) (a .places .now) (a .numbers .now) (c .before .before .before .lay-rows .result) (p .inside) (c .before .before .before .lay-rows .ensures .0))
 
 lay-four-requires : tie.Need-lay-four-requires
 lay-four-requires c κs = search needs
 
 sub-status-for : tie.Need-sub-status-for
 sub-status-for c = let a = c .before .before .before .before .before .before .before .before .before .before .before .before .before .before .before .before .before .args in let p = c .before .before .before .before .before .before .before .before .before .before .before .before .before .before .before .before .before .pre .0 in
-    returned-few (a .size) (a .from) (a .width) (columnsOf (a .bound) (a .words .now)) (a .asked) (a .s .now) (a .places .now) (a .numbers .now) (c .before .before .before .before .before .before .lay-rows .result) (p .inside) (c .before .before .before .before .before .before .lay-rows .ensures .0)
+    returned-few (a .size) (a .from) (a .width) (columnsOf (a .bound) (a .records .now)) (a .asked) (a .catalogue .now) (a .places .now) (a .numbers .now) (c .before .before .before .before .before .before .lay-rows .result) (p .inside) (c .before .before .before .before .before .before .lay-rows .ensures .0)
 
 status-for-requires : tie.Need-status-for-requires
 status-for-requires c κs = search needs
@@ -53,7 +53,7 @@ same-length c = search needs
 returns : tie.Need-returns
 returns c = let a = c .before .before .before .before .before .before .before .before .before .before .before .before .before .before .before .before .before .before .before .before .before .before .args in let p = c .before .before .before .before .before .before .before .before .before .before .before .before .before .before .before .before .before .before .before .before .before .before .pre .0 in (
   c .before .before .before .before .before .before .before .before .before .before .before .lay-rows .ensures .0,
-  page-whole (a .size) (a .from) (a .width) (a .base) (a .asked) (columnsOf (a .bound) (a .words .now)) (rowsAt (a .s .now) (a .places .now) (a .numbers .now)) (p .fits) (p .head) (p .inside) (a .reply .now) (p .ends)
+  page-whole (a .size) (a .from) (a .width) (a .base) (a .asked) (columnsOf (a .bound) (a .records .now)) (rowsAt (a .catalogue .now) (a .places .now) (a .numbers .now)) (p .fits) (p .head) (p .inside) (a .reply .now) (p .ends)
       (c .before .before .before .before .before .before .before .before .before .before .before .lay-rows .result) _ (c .before .before .before .before .before .before .before .before .before .before .before .lay-rows .ensures .0)
       (c .before .before .before .before .before .before .before .before .before .before .before .before .before .before .before .clear-first .last .0) (c .before .before .before .before .before .before .before .before .before .before .before .lay-rows .last .0) (c .before .before .before .before .before .before .before .lay-four .last .0) (c .before .before .lay-header .last .0)
       (c .before .before .before .before .before .before .before .before .before .before .before .before .before .before .before .clear-first .ensures) (c .before .before .before .before .before .before .before .before .before .before .before .lay-rows .ensures .1) (c .before .before .before .before .before .before .before .lay-four .ensures) (c .before .before .lay-header .ensures ∙ ap (λ (n : ℕ). lay (c .before .before .before .before .before .before .before .lay-four .last .0) 0 (header rowsMessage n .bytes)) (c .before .before .before .before .status-for .ensures)),

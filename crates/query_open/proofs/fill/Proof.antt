@@ -14,7 +14,7 @@ part-select-start : tie.Need-part-select-start
 part-select-start c = search needs
 
 part-select-end : tie.Need-part-select-end
-part-select-end c = omega (arith, closed-length (c .before .before .before .args .block .now) (c .before .before .before .pre .0))
+part-select-end c = omega (arith, closed-length (c .before .before .before .args .cursor .now) (c .before .before .before .pre .0))
 
 select-requires : tie.Need-select-requires
 select-requires c κs = search needs
@@ -22,7 +22,7 @@ select-requires c κs = search needs
 open-requires : tie.Need-open-requires
 open-requires c κs =
     let a = c .before .before .before .before .before .before .before .before in
-    filled-length (a .args .block .now) (selected (a .args .tree .now) (a .args .catalogue .now)) _ (a .pre .0)
+    filled-length (a .args .cursor .now) (selected (a .args .tree .now) (a .args .catalogue .now)) _ (a .pre .0)
     (selected-few (a .args .tree .now) (a .args .catalogue .now) _ _ (a .pre .2))
     (c .before .before .before .select .ensures .laid)
 
@@ -33,7 +33,7 @@ returns : tie.Need-returns
 returns c =
     let a = c .before .before .before .before .before .before .before .before .before .before .before in
     c .before .before .«open» .ensures
-    ∙ filled (a .args .block .now) (selected (a .args .tree .now) (a .args .catalogue .now)) _ (a .pre .0)
+    ∙ filled (a .args .cursor .now) (selected (a .args .tree .now) (a .args .catalogue .now)) _ (a .pre .0)
     (selected-few (a .args .tree .now) (a .args .catalogue .now) _ _ (a .pre .2))
     (c .before .before .before .before .before .before .select .ensures .laid)
     _

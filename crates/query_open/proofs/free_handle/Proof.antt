@@ -11,7 +11,7 @@ is-open-requires : tie.Need-is-open-requires
 is-open-requires c κs = search needs
 
 returns : tie.Need-returns
-returns c = sym (free-first (seatIn (c .before .before .before .args .block .now)) (sym (c .before .is-open .ensures) ∙ not-true _ (c .if1 .taken)))
+returns c = sym (free-first (seatIn (c .before .before .before .args .seat .now)) (sym (c .before .is-open .ensures) ∙ not-true _ (c .if1 .taken)))
 
 is-open-requires-2 : tie.Need-is-open-requires-2
 is-open-requires-2 c κs = search needs
@@ -19,12 +19,12 @@ is-open-requires-2 c κs = search needs
 returns-2 : tie.Need-returns-2
 returns-2 c =
     sym
-    (free-second (seatIn (c .before .before .before .before .before .args .block .now)) (sym (c .before .before .before .is-open .ensures) ∙ not-false _ (c .before .before .if1 .left)) (sym (c .before .is-open2 .ensures) ∙ not-true _ (c .if2 .taken)))
+    (free-second (seatIn (c .before .before .before .before .before .args .seat .now)) (sym (c .before .before .before .is-open .ensures) ∙ not-false _ (c .before .before .if1 .left)) (sym (c .before .is-open2 .ensures) ∙ not-true _ (c .if2 .taken)))
 
 returns-3 : tie.Need-returns-3
 returns-3 c =
     sym
-    (free-none (seatIn (c .before .before .before .before .before .args .block .now)) (sym (c .before .before .before .is-open .ensures) ∙ not-false _ (c .before .before .if1 .left)) (sym (c .before .is-open2 .ensures) ∙ not-false _ (c .if2 .left)))
+    (free-none (seatIn (c .before .before .before .before .before .args .seat .now)) (sym (c .before .before .before .is-open .ensures) ∙ not-false _ (c .before .before .if1 .left)) (sym (c .before .is-open2 .ensures) ∙ not-false _ (c .if2 .left)))
 
 pub free-handle-spec : {M : Type 1} → statement M
 free-handle-spec =

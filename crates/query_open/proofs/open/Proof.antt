@@ -31,7 +31,7 @@ part-fill-end c = omega (arith, c .cursor-at .ensures, place-inside (c .before .
 fill-requires : tie.Need-fill-requires
 fill-requires c κs =
     let a = c .before .before .before .before .before in
-    let b = a .args .block .now in
+    let b = a .args .seat .now in
     (part-is b (c .before .cursor-at .result) cursorSize ∙ ap (λ (p : ℕ). part b p cursorSize) (c .before .cursor-at .ensures) ∙ a .pre .1, a .pre .2, a .pre .3)
 
 same-length : tie.Need-same-length
@@ -40,7 +40,7 @@ same-length c = search needs
 returns : tie.Need-returns
 returns c =
     let a = c .before .before .before .before .before .before .before .before .args in
-    let b = a .block .now in
+    let b = a .seat .now in
     put-is b (c .before .before .before .before .cursor-at .result) (c .before .before .fill .last .0)
     ∙ ap₂ (λ (p : ℕ) (x : List ℕ). put b p cursorSize x) (c .before .before .before .before .cursor-at .ensures) (c .before .before .fill .ensures)
 

@@ -46,7 +46,7 @@ selection-well-requires c κs = search needs
 
 returns-4 : tie.Need-returns-4
 returns-4 c =
-    rw (rest 50 (c .before .before .before .before .before .before .before .before .before .args .block .now)) at (c .selection-well .ensures)
+    rw (rest 50 (c .before .before .before .before .before .before .before .before .before .args .cursor .now)) at (c .selection-well .ensures)
     ∙ sym
     (both-go _ (le-leb _ _ (c .before .before .before .before .before .if1 .left))
     ∙ both-go _ (le-leb _ _ (c .before .before .before .before .if2 .left))

@@ -16,22 +16,22 @@ is-open-requires-2 c κs = search needs
 returns : tie.Need-returns
 returns c =
     sym
-    (count-two (seatIn (c .before .before .before .before .before .args .block .now)) true true (sym (c .before .if1 .taken) ∙ c .before .before .before .is-open .ensures) (sym (c .if2 .taken) ∙ c .before .before .is-open2 .ensures))
+    (count-two (seatIn (c .before .before .before .before .before .args .seat .now)) true true (sym (c .before .if1 .taken) ∙ c .before .before .before .is-open .ensures) (sym (c .if2 .taken) ∙ c .before .before .is-open2 .ensures))
 
 returns-2 : tie.Need-returns-2
 returns-2 c =
     sym
-    (count-two (seatIn (c .before .before .before .before .before .args .block .now)) true false (sym (c .before .if1 .taken) ∙ c .before .before .before .is-open .ensures) (sym (c .if2 .left) ∙ c .before .before .is-open2 .ensures))
+    (count-two (seatIn (c .before .before .before .before .before .args .seat .now)) true false (sym (c .before .if1 .taken) ∙ c .before .before .before .is-open .ensures) (sym (c .if2 .left) ∙ c .before .before .is-open2 .ensures))
 
 returns-3 : tie.Need-returns-3
 returns-3 c =
     sym
-    (count-two (seatIn (c .before .before .before .before .before .args .block .now)) false true (sym (c .before .if1 .left) ∙ c .before .before .before .is-open .ensures) (sym (c .if3 .taken) ∙ c .before .before .is-open2 .ensures))
+    (count-two (seatIn (c .before .before .before .before .before .args .seat .now)) false true (sym (c .before .if1 .left) ∙ c .before .before .before .is-open .ensures) (sym (c .if3 .taken) ∙ c .before .before .is-open2 .ensures))
 
 returns-4 : tie.Need-returns-4
 returns-4 c =
     sym
-    (count-two (seatIn (c .before .before .before .before .before .args .block .now)) false false (sym (c .before .if1 .left) ∙ c .before .before .before .is-open .ensures) (sym (c .if3 .left) ∙ c .before .before .is-open2 .ensures))
+    (count-two (seatIn (c .before .before .before .before .before .args .seat .now)) false false (sym (c .before .if1 .left) ∙ c .before .before .before .is-open .ensures) (sym (c .if3 .left) ∙ c .before .before .is-open2 .ensures))
 
 pub open-count-spec : {M : Type 1} → statement M
 open-count-spec =

@@ -10,7 +10,7 @@ shared-slice-read-if1 : tie.Need-shared-slice-read-if1
 shared-slice-read-if1 c = search needs
 
 returns : tie.Need-returns
-returns c = sym (below-closed (c .before .before .args .rows) (c .before .before .args .block .now) (c .if1 .taken))
+returns c = sym (below-closed (c .before .before .args .rows) (c .before .before .args .cursor .now) (c .if1 .taken))
 
 shared-slice-read-count : tie.Need-shared-slice-read-count
 shared-slice-read-count c = search needs
@@ -18,15 +18,15 @@ shared-slice-read-count c = search needs
 cast-count : tie.Need-cast-count
 cast-count c =
     let a = c .before .before .before in
-    omega (arith, count-most (a .args .block .now) (a .pre .1) (c .before .if1 .left))
+    omega (arith, count-most (a .args .cursor .now) (a .pre .1) (c .before .if1 .left))
 
 returns-2 : tie.Need-returns-2
-returns-2 c = let a = c .before .before .before .before .args in sym (below-none (a .rows) (a .block .now) (c .before .before .if1 .left) (c .if2 .taken))
+returns-2 c = let a = c .before .before .before .before .args in sym (below-none (a .rows) (a .cursor .now) (c .before .before .if1 .left) (c .if2 .taken))
 
 add-last : tie.Need-add-last
 add-last c =
     let a = c .before .before .before .before in
-    omega (arith, count-most (a .args .block .now) (a .pre .1) (c .before .before .if1 .left))
+    omega (arith, count-most (a .args .cursor .now) (a .pre .1) (c .before .before .if1 .left))
 
 sub-last : tie.Need-sub-last
 sub-last c = search needs
@@ -34,17 +34,17 @@ sub-last c = search needs
 mul-result : tie.Need-mul-result
 mul-result c =
     let a = c .before .before .before .before in
-    omega (arith, count-most (a .args .block .now) (a .pre .1) (c .before .before .if1 .left))
+    omega (arith, count-most (a .args .cursor .now) (a .pre .1) (c .before .before .if1 .left))
 
 shared-slice-read-result : tie.Need-shared-slice-read-result
 shared-slice-read-result c =
     let a = c .before .before .before .before .before in
-    omega (arith, count-most (a .args .block .now) (a .pre .1) (c .before .before .before .if1 .left))
+    omega (arith, count-most (a .args .cursor .now) (a .pre .1) (c .before .before .before .if1 .left))
 
 returns-3 : tie.Need-returns-3
 returns-3 c =
     let a = c .before .before .before .before .before in
-    sym (below-last (a .args .rows) (a .args .block .now) (a .pre .0) (a .pre .1) (c .before .before .before .if1 .left) (c .before .if2 .left))
+    sym (below-last (a .args .rows) (a .args .cursor .now) (a .pre .0) (a .pre .1) (c .before .before .before .if1 .left) (c .before .if2 .left))
 
 pub cursor-below-spec : {M : Type 1} → statement M
 cursor-below-spec =

@@ -12,7 +12,7 @@ shared-slice-read-if1 : tie.Need-shared-slice-read-if1
 shared-slice-read-if1 c = search needs
 
 returns : tie.Need-returns
-returns c = sym (below-gone (c .before .before .before .args .rows) (c .before .before .before .args .block .now) (c .if1 .taken))
+returns c = sym (below-gone (c .before .before .before .args .rows) (c .before .before .before .args .seat .now) (c .if1 .taken))
 
 sub-cursor-below : tie.Need-sub-cursor-below
 sub-cursor-below c = search needs
@@ -26,13 +26,13 @@ part-cursor-below-end c = search needs
 cursor-below-requires : tie.Need-cursor-below-requires
 cursor-below-requires c κs =
     let a = c .before .before .before .before in
-    (first-length (a .args .block .now) (a .pre .0), seat-parts (a .args .block .now) (a .pre .1) (c .before .if1 .left) .0)
+    (first-length (a .args .seat .now) (a .pre .0), seat-parts (a .args .seat .now) (a .pre .1) (c .before .if1 .left) .0)
 
 returns-2 : tie.Need-returns-2
 returns-2 c =
     let a = c .before .before .before .before .before .before .args in
     sym
-    (below-seated (a .rows) (a .block .now) (c .before .before .before .if1 .left)
+    (below-seated (a .rows) (a .seat .now) (c .before .before .before .if1 .left)
     ∙ both-stop _ (sym (c .before .cursor-below .ensures) ∙ not-true _ (c .if2 .taken)))
 
 sub-cursor-below-2 : tie.Need-sub-cursor-below-2
@@ -47,14 +47,14 @@ part-cursor-below-end-2 c = search needs
 cursor-below-requires-2 : tie.Need-cursor-below-requires-2
 cursor-below-requires-2 c κs =
     let a = c .before .before .before .before .before .before .before in
-    (second-length (a .args .block .now) (a .pre .0), seat-parts (a .args .block .now) (a .pre .1) (c .before .before .before .before .if1 .left) .1)
+    (second-length (a .args .seat .now) (a .pre .0), seat-parts (a .args .seat .now) (a .pre .1) (c .before .before .before .before .if1 .left) .1)
 
 returns-3 : tie.Need-returns-3
 returns-3 c =
     let a = c .before .before .before .before .before .before .before .before .args in
     c .cursor-below2 .ensures
     ∙ sym
-    (below-seated (a .rows) (a .block .now) (c .before .before .before .before .before .if1 .left)
+    (below-seated (a .rows) (a .seat .now) (c .before .before .before .before .before .if1 .left)
     ∙ both-go _ (sym (c .before .before .before .cursor-below .ensures) ∙ not-false _ (c .before .before .if2 .left)))
 
 pub seat-below-spec : {M : Type 1} → statement M

@@ -8,11 +8,11 @@ use lib.ListN.{length, set, length-set}
 use Rattle.table.specs.Layout.{put}
 use Rattle.table.proofs.Tables.{put-length}
 
-slice-write-block : tie.Need-slice-write-block
-slice-write-block c = search needs
+slice-write-cursor : tie.Need-slice-write-cursor
+slice-write-cursor c = search needs
 
-slice-write-block-2 : tie.Need-slice-write-block-2
-slice-write-block-2 c = search needs
+slice-write-cursor-2 : tie.Need-slice-write-cursor-2
+slice-write-cursor-2 c = search needs
 
 sub-copy : tie.Need-sub-copy
 sub-copy c = search needs
@@ -29,7 +29,7 @@ copy-requires c κs = search needs
 same-length : tie.Need-same-length
 same-length c =
     let a = c .before .before .before .before .before .before in
-    put-length (set (set (a .args .block .now) 3 (a .args .count)) 4 (a .args .width)) 5 45 (c .before .before .copy .last .1 .0)
+    put-length (set (set (a .args .cursor .now) 3 (a .args .count)) 4 (a .args .width)) 5 45 (c .before .before .copy .last .1 .0)
     (simp length-set (omega (arith, a .pre .0)))
     (ap length (c .before .before .copy .ensures) ∙ a .pre .1)
     ∙ simp length-set
@@ -37,14 +37,14 @@ same-length c =
 returns : tie.Need-returns
 returns c =
     let a = c .before .before .before .before .before .before .args in
-    ap (put (set (set (a .block .now) 3 (a .count)) 4 (a .width)) 5 45) (c .before .before .copy .ensures)
+    ap (put (set (set (a .cursor .now) 3 (a .count)) 4 (a .width)) 5 45) (c .before .before .copy .ensures)
 
 pub bind-spec : {M : Type 1} → statement M
 bind-spec =
     tie.close
     (tie.spec
-    slice-write-block
-    slice-write-block-2
+    slice-write-cursor
+    slice-write-cursor-2
     sub-copy
     part-copy-start
     part-copy-end

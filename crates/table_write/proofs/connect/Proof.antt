@@ -6,17 +6,17 @@ use native.Mathlib.Omega.{arith}
 use lib.ListN.{length-set}
 use Rattle.table.proofs.Writes.{connect-block, block-fits}
 
-slice-write-block : tie.Need-slice-write-block
-slice-write-block c = omega (arith, block-fits (c .args .block .now) (c .pre))
+slice-write-seat : tie.Need-slice-write-seat
+slice-write-seat c = omega (arith, block-fits (c .args .seat .now) (c .pre))
 
-slice-write-block-2 : tie.Need-slice-write-block-2
-slice-write-block-2 c = simp length-set (omega (arith, block-fits (c .args .block .now) (c .pre)))
+slice-write-seat-2 : tie.Need-slice-write-seat-2
+slice-write-seat-2 c = simp length-set (omega (arith, block-fits (c .args .seat .now) (c .pre)))
 
 same-length : tie.Need-same-length
 same-length c = search needs
 
 returns : tie.Need-returns
-returns c = connect-block (c .args .block .now) (c .args .version) (c .pre)
+returns c = connect-block (c .args .seat .now) (c .args .version) (c .pre)
 
 pub connect-spec : {M : Type 1} → statement M
-connect-spec = tie.close (tie.spec slice-write-block slice-write-block-2 same-length returns)
+connect-spec = tie.close (tie.spec slice-write-seat slice-write-seat-2 same-length returns)

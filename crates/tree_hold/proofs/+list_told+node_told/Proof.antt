@@ -61,25 +61,25 @@ abbrev list-told-μ-loop : list-told-lts.MeasureT-loop
 list-told-μ-loop kind s at levels catalogue row left₀ place₀ holds₀ left place holds = left
 
 list-told-add-word : (t : ℕ) → list-told-lts.Need-add-word (list-told-has t) (list-told-at t) list-told.Post list-told-Inv-loop list-told-μ-loop
-list-told-add-word t c = let a = c .before .before .args in let f = c .before .before .pre .1 .0 in omega (arith, f .short, branch-head (readTree (a .levels)) (a .kind) (a .s .now) (rowOf (a .catalogue .now) (a .row)) (f .nodes) (a .at) (f .node) (f .is))
+list-told-add-word t c = let a = c .before .before .args in let f = c .before .before .pre .1 .0 in omega (arith, f .short, branch-head (readTree (a .levels)) (a .kind) (a .tree .now) (rowOf (a .catalogue .now) (a .row)) (f .nodes) (a .at) (f .node) (f .is))
 
 list-told-word-requires : (t : ℕ) → list-told-lts.Need-word-requires (list-told-has t) (list-told-at t) list-told.Post list-told-Inv-loop list-told-μ-loop
-list-told-word-requires t c κs = let a = c .before .before .args in let f = c .before .before .pre .1 .0 in omega (arith, f .short, branch-head (readTree (a .levels)) (a .kind) (a .s .now) (rowOf (a .catalogue .now) (a .row)) (f .nodes) (a .at) (f .node) (f .is))
+list-told-word-requires t c κs = let a = c .before .before .args in let f = c .before .before .pre .1 .0 in omega (arith, f .short, branch-head (readTree (a .levels)) (a .kind) (a .tree .now) (rowOf (a .catalogue .now) (a .row)) (f .nodes) (a .at) (f .node) (f .is))
 
 list-told-add-place : (t : ℕ) → list-told-lts.Need-add-place (list-told-has t) (list-told-at t) list-told.Post list-told-Inv-loop list-told-μ-loop
-list-told-add-place t c = let a = c .before .before .before .args in let f = c .before .before .before .pre .1 .0 in omega (arith, f .short, branch-head (readTree (a .levels)) (a .kind) (a .s .now) (rowOf (a .catalogue .now) (a .row)) (f .nodes) (a .at) (f .node) (f .is))
+list-told-add-place t c = let a = c .before .before .before .args in let f = c .before .before .before .pre .1 .0 in omega (arith, f .short, branch-head (readTree (a .levels)) (a .kind) (a .tree .now) (rowOf (a .catalogue .now) (a .row)) (f .nodes) (a .at) (f .node) (f .is))
 
 list-told-loop-holds : (t : ℕ) → list-told-lts.Need-loop-holds (list-told-has t) (list-told-at t) list-told.Post list-told-Inv-loop list-told-μ-loop
-list-told-loop-holds t c = let a = c .before .before .before .args in let f = c .before .before .before .pre .1 .0 in (λ nodes r e. rw (c .word .ensures) (left-first (readTree (a .levels)) (a .kind) (a .s .now) (rowOf (a .catalogue .now) (a .row)) nodes (a .at) r e), omega (arith, f .short, branch-head (readTree (a .levels)) (a .kind) (a .s .now) (rowOf (a .catalogue .now) (a .row)) (f .nodes) (a .at) (f .node) (f .is)))
+list-told-loop-holds t c = let a = c .before .before .before .args in let f = c .before .before .before .pre .1 .0 in (λ nodes r e. rw (c .word .ensures) (left-first (readTree (a .levels)) (a .kind) (a .tree .now) (rowOf (a .catalogue .now) (a .row)) nodes (a .at) r e), omega (arith, f .short, branch-head (readTree (a .levels)) (a .kind) (a .tree .now) (rowOf (a .catalogue .now) (a .row)) (f .nodes) (a .at) (f .node) (f .is)))
 
 list-told-padding-requires : (t : ℕ) → list-told-lts.Need-padding-requires (list-told-has t) (list-told-at t) list-told.Post list-told-Inv-loop list-told-μ-loop
 list-told-padding-requires t c κs = search needs
 
 -- a child is found where the code looks for it
 child-found : (t : ℕ) (c : list-told-lts.In-loop (list-told-has t) (list-told-at t) list-told.Post list-told-Inv-loop list-told-μ-loop)
-    → Found (readTree (c .before .before .before .before .before .args .levels)) (c .before .before .before .before .before .args .s .now) (c .before .loop .place + padding (c .before .loop .place))
+    → Found (readTree (c .before .before .before .before .before .args .levels)) (c .before .before .before .before .before .args .tree .now) (c .before .loop .place + padding (c .before .loop .place))
 child-found t c = let a = c .before .before .before .before .before .args in let f = c .before .before .before .before .before .pre .1 .0 in let l = c .before .loop in
-    left-child (readTree (a .levels)) (a .kind) (a .s .now) (rowOf (a .catalogue .now) (a .row)) _ _ (l .left) (l .place) (l .holds) (l .inv .0 (f .nodes) (f .node) (f .is)) (search needs) (f .short)
+    left-child (readTree (a .levels)) (a .kind) (a .tree .now) (rowOf (a .catalogue .now) (a .row)) _ _ (l .left) (l .place) (l .holds) (l .inv .0 (f .nodes) (f .node) (f .is)) (search needs) (f .short)
 
 list-told-add-child : (t : ℕ) → list-told-lts.Need-add-child (list-told-has t) (list-told-at t) list-told.Post list-told-Inv-loop list-told-μ-loop
 list-told-add-child t c =
@@ -98,16 +98,16 @@ list-told-loop-less : (t : ℕ) → list-told-lts.Need-loop-less (list-told-has 
 list-told-loop-less t c = search needs
 
 list-told-loop-again : (t : ℕ) → list-told-lts.Need-loop-again (list-told-has t) (list-told-at t) list-told.Post list-told-Inv-loop list-told-μ-loop
-list-told-loop-again t c = let a = c .before .before .before .before .before .before .before .before .args in let l = c .before .before .before .before .loop in (λ nodes r e. rw (c .with-child .ensures) (left-next (readTree (a .levels)) (a .kind) (a .s .now) (rowOf (a .catalogue .now) (a .row)) _ _ (l .left) (l .place) (l .holds) (l .inv .0 nodes r e) (c .before .node-told .result) (search needs) (rw (c .before .before .padding .ensures) at (c .before .node-told .ensures))), search needs)
+list-told-loop-again t c = let a = c .before .before .before .before .before .before .before .before .args in let l = c .before .before .before .before .loop in (λ nodes r e. rw (c .with-child .ensures) (left-next (readTree (a .levels)) (a .kind) (a .tree .now) (rowOf (a .catalogue .now) (a .row)) _ _ (l .left) (l .place) (l .holds) (l .inv .0 nodes r e) (c .before .node-told .result) (search needs) (rw (c .before .before .padding .ensures) at (c .before .node-told .ensures))), search needs)
 
 list-told-told-requires : (t : ℕ) → list-told-lts.Need-told-requires (list-told-has t) (list-told-at t) list-told.Post list-told-Inv-loop list-told-μ-loop
 list-told-told-requires t c κs = search needs
 
 list-told-returns : (t : ℕ) → list-told-lts.Need-returns (list-told-has t) (list-told-at t) list-told.Post list-told-Inv-loop list-told-μ-loop
-list-told-returns t c = let a = c .before .before .before .before .before .before .args in let l = c .before .before .loop in λ nodes r e. c .told .ensures ∙ left-none (readTree (a .levels)) (a .kind) (a .s .now) (rowOf (a .catalogue .now) (a .row)) _ _ (l .left) (l .place) (l .holds) (l .inv .0 nodes r e) (search needs)
+list-told-returns t c = let a = c .before .before .before .before .before .before .args in let l = c .before .before .loop in λ nodes r e. c .told .ensures ∙ left-none (readTree (a .levels)) (a .kind) (a .tree .now) (rowOf (a .catalogue .now) (a .row)) _ _ (l .left) (l .place) (l .holds) (l .inv .0 nodes r e) (search needs)
 
 node-told-word-requires : (t : ℕ) → node-told-lts.Need-word-requires (node-told-has t) (node-told-at t) node-told.Post
-node-told-word-requires t c κs = let a = c .before .before .args in omega (arith, node-inside (a .levels) (a .s .now) (a .at) (c .before .before .pre .1 .0))
+node-told-word-requires t c κs = let a = c .before .before .args in omega (arith, node-inside (a .levels) (a .tree .now) (a .at) (c .before .before .pre .1 .0))
 
 node-told-sub-below : (t : ℕ) → node-told-lts.Need-sub-below (node-told-has t) (node-told-at t) node-told.Post
 node-told-sub-below t c = let a = c .before .before .before .args in let f = c .before .before .before .pre .1 .0 in omega (arith, node-levels (a .levels) (f .nodes) (a .at) _ (f .node) (f .is))
@@ -118,18 +118,18 @@ node-told-is-branch-requires t c κs = search needs
 node-told-list-told-requires : (t : ℕ) → node-told-lts.Need-list-told-requires (node-told-has t) (node-told-at t) node-told.Post
 node-told-list-told-requires t c κs = let a = c .before .before .before .before .before .args in let p = c .before .before .before .before .before .pre in let f = p .1 .0 in (
   omega (arith, p .0, node-levels (a .levels) (f .nodes) (a .at) _ (f .node) (f .is)),
-  (record { short = f .short; nodes = f .nodes - 1; node = f .node; is = as-branch (a .levels) (f .nodes) (a .at) (a .s .now) (f .node) (f .is) (c .before .before .word .result) (c .before .before .word .ensures) (sym (c .before .is-branch .ensures) ∙ c .if1 .taken) }, p .1 .1),
+  (record { short = f .short; nodes = f .nodes - 1; node = f .node; is = as-branch (a .levels) (f .nodes) (a .at) (a .tree .now) (f .node) (f .is) (c .before .before .word .result) (c .before .before .word .ensures) (sym (c .before .is-branch .ensures) ∙ c .if1 .taken) }, p .1 .1),
 )
 
 node-told-returns : (t : ℕ) → node-told-lts.Need-returns (node-told-has t) (node-told-at t) node-told.Post
-node-told-returns t c = let a = c .before .before .before .before .before .before .args in λ nodes r e. c .list-told .ensures (nodes - 1) r (as-branch (a .levels) nodes (a .at) (a .s .now) r e (c .before .before .before .word .result) (c .before .before .before .word .ensures) (sym (c .before .before .is-branch .ensures) ∙ c .before .if1 .taken))
+node-told-returns t c = let a = c .before .before .before .before .before .before .args in λ nodes r e. c .list-told .ensures (nodes - 1) r (as-branch (a .levels) nodes (a .at) (a .tree .now) r e (c .before .before .before .word .result) (c .before .before .before .word .ensures) (sym (c .before .before .is-branch .ensures) ∙ c .before .if1 .taken))
 
 node-told-add-child : (t : ℕ) → node-told-lts.Need-add-child (node-told-has t) (node-told-at t) node-told.Post
-node-told-add-child t c = let a = c .before .before .before .before .before .before .args in let f = c .before .before .before .before .before .before .pre .1 .0 in omega (arith, f .short, node-inside (a .levels) (a .s .now) (a .at) f)
+node-told-add-child t c = let a = c .before .before .before .before .before .before .args in let f = c .before .before .before .before .before .before .pre .1 .0 in omega (arith, f .short, node-inside (a .levels) (a .tree .now) (a .at) f)
 
 node-told-node-told-requires : (t : ℕ) → node-told-lts.Need-node-told-requires (node-told-has t) (node-told-at t) node-told.Post
 node-told-node-told-requires t c κs = let a = c .before .before .before .before .before .before .args in let p = c .before .before .before .before .before .before .pre in let f = p .1 .0 in
-    let j = not-child (readTree (a .levels - 1)) (f .nodes - 1) (a .at) (a .s .now) (f .node) (as-not (a .levels) (f .nodes) (a .at) (a .s .now) (f .node) (f .is) (c .before .before .before .word .result) (c .before .before .before .word .ensures) (sym (c .before .before .is-branch .ensures) ∙ c .before .if1 .left) (c .if2 .taken)) in (
+    let j = not-child (readTree (a .levels - 1)) (f .nodes - 1) (a .at) (a .tree .now) (f .node) (as-not (a .levels) (f .nodes) (a .at) (a .tree .now) (f .node) (f .is) (c .before .before .before .word .result) (c .before .before .before .word .ensures) (sym (c .before .before .is-branch .ensures) ∙ c .before .if1 .left) (c .if2 .taken)) in (
       omega (arith, p .0, node-levels (a .levels) (f .nodes) (a .at) _ (f .node) (f .is)),
       (record { short = f .short; nodes = f .nodes - 1; node = j .0; is = j .1 }, p .1 .1),
     )
@@ -139,14 +139,14 @@ node-told-turned-requires t c κs = search needs
 
 node-told-returns-2 : (t : ℕ) → node-told-lts.Need-returns-2 (node-told-has t) (node-told-at t) node-told.Post
 node-told-returns-2 t c = let a = c .before .before .before .before .before .before .before .before .args in λ nodes r e.
-    let j = not-child (readTree (a .levels - 1)) (nodes - 1) (a .at) (a .s .now) r (as-not (a .levels) nodes (a .at) (a .s .now) r e (c .before .before .before .before .before .word .result) (c .before .before .before .before .before .word .ensures) (sym (c .before .before .before .before .is-branch .ensures) ∙ c .before .before .before .if1 .left) (c .before .before .if2 .taken)) in
+    let j = not-child (readTree (a .levels - 1)) (nodes - 1) (a .at) (a .tree .now) r (as-not (a .levels) nodes (a .at) (a .tree .now) r e (c .before .before .before .before .before .word .result) (c .before .before .before .before .before .word .ensures) (sym (c .before .before .before .before .is-branch .ensures) ∙ c .before .before .before .if1 .left) (c .before .before .if2 .taken)) in
     c .turned .ensures ∙ not-told (rowOf (a .catalogue .now) (a .row)) (a .at) (c .before .node-told .result) r (j .0) (j .2) (c .before .node-told .ensures (nodes - 1) (j .0) (j .1))
 
 node-told-leaf-told-requires : (t : ℕ) → node-told-lts.Need-leaf-told-requires (node-told-has t) (node-told-at t) node-told.Post
-node-told-leaf-told-requires t c κs = let a = c .before .before .before .before .before .before .args in let p = c .before .before .before .before .before .before .pre in let f = p .1 .0 in (leaf-found (c .before .before .before .word .result) (f .nodes - 1) (a .at) (a .s .now) (f .node) (as-leaf (a .levels) (f .nodes) (a .at) (a .s .now) (f .node) (f .is) (c .before .before .before .word .result) (c .before .before .before .word .ensures) (sym (c .before .before .is-branch .ensures) ∙ c .before .if1 .left) (c .if2 .left)) (f .short), p .1 .1)
+node-told-leaf-told-requires t c κs = let a = c .before .before .before .before .before .before .args in let p = c .before .before .before .before .before .before .pre in let f = p .1 .0 in (leaf-found (c .before .before .before .word .result) (f .nodes - 1) (a .at) (a .tree .now) (f .node) (as-leaf (a .levels) (f .nodes) (a .at) (a .tree .now) (f .node) (f .is) (c .before .before .before .word .result) (c .before .before .before .word .ensures) (sym (c .before .before .is-branch .ensures) ∙ c .before .if1 .left) (c .if2 .left)) (f .short), p .1 .1)
 
 node-told-returns-3 : (t : ℕ) → node-told-lts.Need-returns-3 (node-told-has t) (node-told-at t) node-told.Post
-node-told-returns-3 t c = let a = c .before .before .before .before .before .before .before .args in λ nodes r e. c .leaf-told .ensures ∙ leaf-answer (rowOf (a .catalogue .now) (a .row)) (c .before .before .before .before .word .result) (nodes - 1) (a .at) (a .s .now) r (as-leaf (a .levels) nodes (a .at) (a .s .now) r e (c .before .before .before .before .word .result) (c .before .before .before .before .word .ensures) (sym (c .before .before .before .is-branch .ensures) ∙ c .before .before .if1 .left) (c .before .if2 .left))
+node-told-returns-3 t c = let a = c .before .before .before .before .before .before .before .args in λ nodes r e. c .leaf-told .ensures ∙ leaf-answer (rowOf (a .catalogue .now) (a .row)) (c .before .before .before .before .word .result) (nodes - 1) (a .at) (a .tree .now) r (as-leaf (a .levels) nodes (a .at) (a .tree .now) r e (c .before .before .before .before .word .result) (c .before .before .before .before .word .ensures) (sym (c .before .before .before .is-branch .ensures) ∙ c .before .before .if1 .left) (c .before .if2 .left))
 
 pub +list-told+node-told-spec : {M : Type 1} → statement M
 +list-told+node-told-spec =

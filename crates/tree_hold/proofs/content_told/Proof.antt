@@ -49,7 +49,7 @@ add-word-2 : tie.Need-add-word-2
 add-word-2 c = search needs
 
 word-requires-3 : tie.Need-word-requires-3
-word-requires-3 c κs = let a = c .before .before .before .before .before .before .args in omega (arith, locale-counted (a .s .now) (a .at) _ _ _ (c .before .before .padding .ensures) (c .before .word2 .ensures) (c .padding2 .ensures), c .before .before .before .before .before .before .pre .0)
+word-requires-3 c κs = let a = c .before .before .before .before .before .before .args in omega (arith, locale-counted (a .tree .now) (a .at) _ _ _ (c .before .before .padding .ensures) (c .before .word2 .ensures) (c .padding2 .ensures), c .before .before .before .before .before .before .pre .0)
 
 text-of-requires : tie.Need-text-of-requires
 text-of-requires c κs = search needs
@@ -61,7 +61,7 @@ part-phrase-holds-start : tie.Need-part-phrase-holds-start
 part-phrase-holds-start c = search needs
 
 part-phrase-holds-end : tie.Need-part-phrase-holds-end
-part-phrase-holds-end c = let a = c .before .before .before .before .before .before .before .before .args in omega (arith, locale-counted (a .s .now) (a .at) _ _ _ (c .before .before .before .before .padding .ensures) (c .before .before .before .word2 .ensures) (c .before .before .padding2 .ensures), c .before .before .before .before .before .before .before .before .pre .0)
+part-phrase-holds-end c = let a = c .before .before .before .before .before .before .before .before .args in omega (arith, locale-counted (a .tree .now) (a .at) _ _ _ (c .before .before .before .before .padding .ensures) (c .before .before .before .word2 .ensures) (c .before .before .padding2 .ensures), c .before .before .before .before .before .before .before .before .pre .0)
 
 phrase-holds-requires : tie.Need-phrase-holds-requires
 phrase-holds-requires c κs = let a = c .before .before .before .before .before .before .before .before .before .args in rw (c .before .text-of .ensures) (text-inside (a .catalogue .now) (c .before .before .before .before .before .before .word .result) (a .row) (c .before .before .before .before .before .before .before .before .before .pre .1))
@@ -70,10 +70,10 @@ add-told : tie.Need-add-told
 add-told c = search needs
 
 told-requires : tie.Need-told-requires
-told-requires c κs = let a = c .before .before .before .before .before .before .before .before .before .before .args in omega (arith, locale-counted (a .s .now) (a .at) _ _ _ (c .before .before .before .before .before .before .padding .ensures) (c .before .before .before .before .before .word2 .ensures) (c .before .before .before .before .padding2 .ensures), c .before .before .before .before .before .before .before .before .before .before .pre .0, c .before .before .before .before .before .before .before .before .before .before .good)
+told-requires c κs = let a = c .before .before .before .before .before .before .before .before .before .before .args in omega (arith, locale-counted (a .tree .now) (a .at) _ _ _ (c .before .before .before .before .before .before .padding .ensures) (c .before .before .before .before .before .word2 .ensures) (c .before .before .before .before .padding2 .ensures), c .before .before .before .before .before .before .before .before .before .before .pre .0, c .before .before .before .before .before .before .before .before .before .before .good)
 
 returns : tie.Need-returns
-returns c = let a = c .before .before .before .before .before .before .before .before .before .before .before .args in c .told .ensures ∙ content-counted (a .s .now) (a .at) _ _ _ (c .before .before .before .before .before .before .before .padding .ensures) (c .before .before .before .before .before .before .word2 .ensures) (c .before .before .before .before .before .padding2 .ensures) (a .catalogue .now) (a .row) (c .before .before .before .before .before .before .before .before .word .result) (c .before .before .before .before .word3 .result) (c .before .before .before .text-of .result) (c .before .phrase-holds .result) (c .before .before .before .before .before .before .before .before .word .ensures) (c .before .before .before .before .word3 .ensures) (c .before .before .before .text-of .ensures) (c .before .phrase-holds .ensures)
+returns c = let a = c .before .before .before .before .before .before .before .before .before .before .before .args in c .told .ensures ∙ content-counted (a .tree .now) (a .at) _ _ _ (c .before .before .before .before .before .before .before .padding .ensures) (c .before .before .before .before .before .before .word2 .ensures) (c .before .before .before .before .before .padding2 .ensures) (a .catalogue .now) (a .row) (c .before .before .before .before .before .before .before .before .word .result) (c .before .before .before .before .word3 .result) (c .before .before .before .text-of .result) (c .before .phrase-holds .result) (c .before .before .before .before .before .before .before .before .word .ensures) (c .before .before .before .before .word3 .ensures) (c .before .before .before .text-of .ensures) (c .before .phrase-holds .ensures)
 
 pub content-told-spec : {M : Type 1} → statement M
 content-told-spec =

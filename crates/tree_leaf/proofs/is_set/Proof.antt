@@ -36,7 +36,7 @@ add-if1-2 c = search needs
 
 returns : tie.Need-returns Inv-loop μ-loop
 unfolding isSet
-returns c = let a = c .before .before .before .before .args in sym (every-broken 16 (λ i. eqb (getD (a .s .now) (a .at + i) 0) (0x10 + i)) (c .before .before .before .loop .i) (search needs) (ne-eqb _ _ (c .if1 .taken)))
+returns c = let a = c .before .before .before .before .args in sym (every-broken 16 (λ i. eqb (getD (a .bytes .now) (a .at + i) 0) (0x10 + i)) (c .before .before .before .loop .i) (search needs) (ne-eqb _ _ (c .if1 .taken)))
 
 add-i : tie.Need-add-i Inv-loop μ-loop
 add-i c = search needs
@@ -49,7 +49,7 @@ loop-again c = (search needs, below-more _ _ (c .before .before .before .loop .i
 
 returns-2 : tie.Need-returns-2 Inv-loop μ-loop
 unfolding isSet
-returns-2 c = let a = c .before .before .args in sym (every-shown 16 (λ i. eqb (getD (a .s .now) (a .at + i) 0) (0x10 + i)) (λ k h. c .before .loop .inv .1 k (search needs)))
+returns-2 c = let a = c .before .before .args in sym (every-shown 16 (λ i. eqb (getD (a .bytes .now) (a .at + i) 0) (0x10 + i)) (λ k h. c .before .loop .inv .1 k (search needs)))
 
 pub is-set-spec : {M : Type 1} → statement M
 is-set-spec =

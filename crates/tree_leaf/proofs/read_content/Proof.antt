@@ -23,13 +23,13 @@ unfolding contentAt
 returns c = rw (sym (c .before .before .read-phrase .ensures) ∙ c .enum-told .given .1)
 
 add-used : tie.Need-add-used
-add-used c = let a = c .before .before .before .before .before .args in let v = c .before .start .given in let r = phrase-read (a .s .now) (a .place) 32 (v .0 .0) (v .0 .1 .0) (v .0 .1 .1 .0) (sym (c .before .before .before .read-phrase .ensures) ∙ v .1) in omega (arith, r .inside, c .before .before .before .before .before .good)
+add-used c = let a = c .before .before .before .before .before .args in let v = c .before .start .given in let r = phrase-read (a .unread .now) (a .place) 32 (v .0 .0) (v .0 .1 .0) (v .0 .1 .1 .0) (sym (c .before .before .before .read-phrase .ensures) ∙ v .1) in omega (arith, r .inside, c .before .before .before .before .before .good)
 
 returns-2 : tie.Need-returns-2
-returns-2 c = let a = c .before .before .before .before .before .before .args in let v = c .before .before .start .given in content-short (a .s .now) (a .place) (v .0 .0) (v .0 .1 .0) (v .0 .1 .1 .0) (sym (c .before .before .before .before .read-phrase .ensures) ∙ v .1) (c .if1 .taken)
+returns-2 c = let a = c .before .before .before .before .before .before .args in let v = c .before .before .start .given in content-short (a .unread .now) (a .place) (v .0 .0) (v .0 .1 .0) (v .0 .1 .1 .0) (sym (c .before .before .before .before .read-phrase .ensures) ∙ v .1) (c .if1 .taken)
 
 property-requires : tie.Need-property-requires
-property-requires c κs = let a = c .before .before .before .before .before .before .args in let v = c .before .before .start .given in let r = phrase-read (a .s .now) (a .place) 32 (v .0 .0) (v .0 .1 .0) (v .0 .1 .1 .0) (sym (c .before .before .before .before .read-phrase .ensures) ∙ v .1) in omega (arith, r .after, r .ends, r .inside)
+property-requires c κs = let a = c .before .before .before .before .before .before .args in let v = c .before .before .start .given in let r = phrase-read (a .unread .now) (a .place) 32 (v .0 .0) (v .0 .1 .0) (v .0 .1 .1 .0) (sym (c .before .before .before .before .read-phrase .ensures) ∙ v .1) in omega (arith, r .after, r .ends, r .inside)
 
 add-word : tie.Need-add-word
 add-word c = search needs
@@ -45,13 +45,13 @@ both-requires c κs = search needs
 
 returns-3 : tie.Need-returns-3
 returns-3 c = let a = c .before .before .before .before .before .before .before .before .before .before .before .args in let v = c .before .before .before .before .before .before .before .start .given in
-    content-by (a .s .now) (a .place) (v .0 .0) (v .0 .1 .0) (v .0 .1 .1 .0) (sym (c .before .before .before .before .before .before .before .before .before .read-phrase .ensures) ∙ v .1)
+    content-by (a .unread .now) (a .place) (v .0 .0) (v .0 .1 .0) (v .0 .1 .1 .0) (sym (c .before .before .before .before .before .before .before .before .before .read-phrase .ensures) ∙ v .1)
     (c .before .before .before .before .before .if1 .left) _ _ true (c .before .before .before .before .property .ensures) (c .before .before .before .word .ensures)
     (sym (c .if2 .taken) ∙ c .before .both .ensures ∙ ap₂ both (c .before .before .within .ensures) refl)
 
 returns-4 : tie.Need-returns-4
 returns-4 c = let a = c .before .before .before .before .before .before .before .before .before .before .before .args in let v = c .before .before .before .before .before .before .before .start .given in
-    content-by (a .s .now) (a .place) (v .0 .0) (v .0 .1 .0) (v .0 .1 .1 .0) (sym (c .before .before .before .before .before .before .before .before .before .read-phrase .ensures) ∙ v .1)
+    content-by (a .unread .now) (a .place) (v .0 .0) (v .0 .1 .0) (v .0 .1 .1 .0) (sym (c .before .before .before .before .before .before .before .before .before .read-phrase .ensures) ∙ v .1)
     (c .before .before .before .before .before .if1 .left) _ _ false (c .before .before .before .before .property .ensures) (c .before .before .before .word .ensures)
     (sym (c .if2 .left) ∙ c .before .both .ensures ∙ ap₂ both (c .before .before .within .ensures) refl)
 

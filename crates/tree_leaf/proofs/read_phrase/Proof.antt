@@ -20,7 +20,7 @@ add-start : tie.Need-add-start
 add-start c = search needs
 
 returns : tie.Need-returns
-returns c = let a = c .before .before .before .args in phrase-short (a .s .now) (a .place) (a .at) (c .before .padding .result) (c .before .padding .ensures) (c .if1 .taken)
+returns c = let a = c .before .before .before .args in phrase-short (a .unread .now) (a .place) (a .at) (c .before .padding .result) (c .before .padding .ensures) (c .if1 .taken)
 
 word-requires : tie.Need-word-requires
 word-requires c κs = search needs
@@ -44,7 +44,7 @@ add-next : tie.Need-add-next
 add-next c = search needs
 
 returns-2 : tie.Need-returns-2
-returns-2 c = let a = c .before .before .before .before .before .before .args in phrase-cut (a .s .now) (a .place) (a .at) _ (c .before .before .before .before .padding .ensures) _ _ (c .before .before .word .ensures) (c .before .padding2 .ensures) (c .if2 .taken)
+returns-2 c = let a = c .before .before .before .before .before .before .args in phrase-cut (a .unread .now) (a .place) (a .at) _ (c .before .before .before .before .padding .ensures) _ _ (c .before .before .word .ensures) (c .before .padding2 .ensures) (c .if2 .taken)
 
 zeros-requires : tie.Need-zeros-requires
 zeros-requires c κs = search needs
@@ -63,7 +63,7 @@ both-requires-2 c κs = search needs
 
 returns-3 : tie.Need-returns-3
 returns-3 c = let a = c .before .before .before .before .before .before .before .before .before .before .before .before .args in
-    phrase-by (a .s .now) (a .place) (a .at) _ (c .before .before .before .before .before .before .before .before .before .before .padding .ensures) _ _
+    phrase-by (a .unread .now) (a .place) (a .at) _ (c .before .before .before .before .before .before .before .before .before .before .padding .ensures) _ _
     (c .before .before .before .before .before .before .before .before .word .ensures)
     (c .before .before .before .before .before .before .before .padding2 .ensures)
     (c .before .before .before .before .before .before .if2 .left)
@@ -72,7 +72,7 @@ returns-3 c = let a = c .before .before .before .before .before .before .before 
 
 returns-4 : tie.Need-returns-4
 returns-4 c = let a = c .before .before .before .before .before .before .before .before .before .before .before .before .args in
-    phrase-by (a .s .now) (a .place) (a .at) _ (c .before .before .before .before .before .before .before .before .before .before .padding .ensures) _ _
+    phrase-by (a .unread .now) (a .place) (a .at) _ (c .before .before .before .before .before .before .before .before .before .before .padding .ensures) _ _
     (c .before .before .before .before .before .before .before .before .word .ensures)
     (c .before .before .before .before .before .before .before .padding2 .ensures)
     (c .before .before .before .before .before .before .if2 .left)

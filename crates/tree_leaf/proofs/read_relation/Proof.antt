@@ -10,7 +10,7 @@ use Rattle.lists.specs.Below.{both}
 use Rattle.tree.proofs.LeafLaws.{relation-short, relation-by}
 
 returns : tie.Need-returns
-returns c = relation-short (c .before .before .args .s .now) (c .if1 .taken)
+returns c = relation-short (c .before .before .args .unread .now) (c .if1 .taken)
 
 word-requires : tie.Need-word-requires
 word-requires c κs = search needs
@@ -44,7 +44,7 @@ both-requires-3 c κs = search needs
 
 returns-2 : tie.Need-returns-2
 returns-2 c = let a = c .before .before .before .before .before .before .before .before .before .before .before .before .args in
-    relation-by (a .s .now) (c .before .before .before .before .before .before .before .before .before .before .if1 .left) _ _ _ true
+    relation-by (a .unread .now) (c .before .before .before .before .before .before .before .before .before .before .if1 .left) _ _ _ true
     (c .before .before .before .before .before .before .before .before .before .word .ensures)
     (c .before .before .before .before .before .before .before .before .property .ensures)
     (c .before .before .before .before .word2 .ensures)
@@ -52,7 +52,7 @@ returns-2 c = let a = c .before .before .before .before .before .before .before 
 
 returns-3 : tie.Need-returns-3
 returns-3 c = let a = c .before .before .before .before .before .before .before .before .before .before .before .before .args in
-    relation-by (a .s .now) (c .before .before .before .before .before .before .before .before .before .before .if1 .left) _ _ _ false
+    relation-by (a .unread .now) (c .before .before .before .before .before .before .before .before .before .before .if1 .left) _ _ _ false
     (c .before .before .before .before .before .before .before .before .before .word .ensures)
     (c .before .before .before .before .before .before .before .before .property .ensures)
     (c .before .before .before .before .word2 .ensures)

@@ -29,7 +29,7 @@ shared-slice-read-if1 c = search needs
 
 returns : tie.Need-returns Inv-loop μ-loop
 unfolding zeros
-returns c = let a = c .before .before .before .before .args in sym (every-broken (a .n) (λ i. eqb (getD (a .s .now) (a .at + i) 0) 0) (c .before .before .before .loop .i) (search needs) (ne-eqb _ _ (c .if1 .taken)))
+returns c = let a = c .before .before .before .before .args in sym (every-broken (a .count) (λ i. eqb (getD (a .bytes .now) (a .at + i) 0) 0) (c .before .before .before .loop .i) (search needs) (ne-eqb _ _ (c .if1 .taken)))
 
 add-i : tie.Need-add-i Inv-loop μ-loop
 add-i c = search needs
@@ -42,7 +42,7 @@ loop-again c = (search needs, below-more _ _ (c .before .before .before .loop .i
 
 returns-2 : tie.Need-returns-2 Inv-loop μ-loop
 unfolding zeros
-returns-2 c = let a = c .before .before .args in sym (every-shown (a .n) (λ i. eqb (getD (a .s .now) (a .at + i) 0) 0) (λ k h. c .before .loop .inv .1 k (search needs)))
+returns-2 c = let a = c .before .before .args in sym (every-shown (a .count) (λ i. eqb (getD (a .bytes .now) (a .at + i) 0) 0) (λ k h. c .before .loop .inv .1 k (search needs)))
 
 pub zeros-spec : {M : Type 1} → statement M
 zeros-spec =

@@ -75,7 +75,7 @@ node-has t = (word-reads.Asked, word-reads.Learnt, is-branch-reads.Asked, is-bra
 branch-returns : (t : ℕ) → branch-lts.Need-returns (branch-has t) (branch-at t) branch.Post
 branch-returns t c =
     let a = c .before .before .args in
-    (branch-short (readTree (a .levels)) 1 (a .nodes) (a .place) (a .s .now) (c .if1 .taken), search needs)
+    (branch-short (readTree (a .levels)) 1 (a .nodes) (a .place) (a .unread .now) (c .if1 .taken), search needs)
 
 branch-word-requires : (t : ℕ) → branch-lts.Need-word-requires (branch-has t) (branch-at t) branch.Post
 branch-word-requires t c κs = search needs
@@ -83,7 +83,7 @@ branch-word-requires t c κs = search needs
 branch-returns-2 : (t : ℕ) → branch-lts.Need-returns-2 (branch-has t) (branch-at t) branch.Post
 branch-returns-2 t c =
     let a = c .before .before .before .before .args in
-    (branch-empty (readTree (a .levels)) 1 (a .nodes) (a .place) (a .s .now) (sym (c .before .word .ensures) ∙ c .if2 .taken), search needs)
+    (branch-empty (readTree (a .levels)) 1 (a .nodes) (a .place) (a .unread .now) (sym (c .before .word .ensures) ∙ c .if2 .taken), search needs)
 
 branch-sub-list : (t : ℕ) → branch-lts.Need-sub-list (branch-has t) (branch-at t) branch.Post
 branch-sub-list t c = search needs
@@ -100,26 +100,26 @@ branch-add-at t c = search needs
 branch-children-requires : (t : ℕ) → branch-lts.Need-children-requires (branch-has t) (branch-at t) branch.Post
 branch-children-requires t c κs =
     let a = c .before .before .before .before .before .args in let p = c .before .before .before .before .before .pre in
-    (search needs, place-in (a .s .now) (a .place) 12 (c .before .before .before .if1 .left) (p .1))
+    (search needs, place-in (a .unread .now) (a .place) 12 (c .before .before .before .if1 .left) (p .1))
 
 branch-joined-requires : (t : ℕ) → branch-lts.Need-joined-requires (branch-has t) (branch-at t) branch.Post
 branch-joined-requires t c κs =
     let a = c .before .before .before .before .before .before .args in
-    omega (arith, taken (a .s .now) 12 (listUsed (c .children .result)) (c .before .before .before .before .if1 .left) (c .children .ensures .1), c .before .before .before .before .before .before .pre .1)
+    omega (arith, taken (a .unread .now) 12 (listUsed (c .children .result)) (c .before .before .before .before .if1 .left) (c .children .ensures .1), c .before .before .before .before .before .before .pre .1)
 
 branch-returns-3 : (t : ℕ) → branch-lts.Need-returns-3 (branch-has t) (branch-at t) branch.Post
 branch-returns-3 t c =
     let a = c .before .before .before .before .before .before .before .args in (
-      c .joined .ensures ∙ branch-by (readTree (a .levels)) 1 (a .nodes) (a .place) (a .s .now) (c .before .before .before .before .word .result) (c .before .children .result)
+      c .joined .ensures ∙ branch-by (readTree (a .levels)) 1 (a .nodes) (a .place) (a .unread .now) (c .before .before .before .before .word .result) (c .before .children .result)
           (c .before .before .before .before .before .if1 .left) (c .before .before .before .before .word .ensures) (c .before .before .before .if2 .left) (c .before .children .ensures .0),
       rw (c .joined .ensures)
-          (omega (arith, branch-used (c .before .children .result), taken (a .s .now) 12 (listUsed (c .before .children .result)) (c .before .before .before .before .before .if1 .left) (c .before .children .ensures .1))),
+          (omega (arith, branch-used (c .before .children .result), taken (a .unread .now) 12 (listUsed (c .before .children .result)) (c .before .before .before .before .before .if1 .left) (c .before .children .ensures .1))),
     )
 
 children-returns : (t : ℕ) → children-lts.Need-returns (children-has t) (children-at t) children.Post
 children-returns t c =
     let a = c .before .before .args in
-    (list-none (readTree (a .levels)) (a .count) (a .nodes) (a .place) (a .s .now) (c .if1 .taken), search needs)
+    (list-none (readTree (a .levels)) (a .count) (a .nodes) (a .place) (a .unread .now) (c .if1 .taken), search needs)
 
 children-padding-requires : (t : ℕ) → children-lts.Need-padding-requires (children-has t) (children-at t) children.Post
 children-padding-requires t c κs = search needs
@@ -127,7 +127,7 @@ children-padding-requires t c κs = search needs
 children-returns-2 : (t : ℕ) → children-lts.Need-returns-2 (children-has t) (children-at t) children.Post
 children-returns-2 t c =
     let a = c .before .before .before .before .args in
-    (list-short (readTree (a .levels)) (a .count) (a .nodes) (a .place) (a .s .now) (c .before .padding .result) (c .before .padding .ensures) (c .before .before .if1 .left) (c .if2 .taken), search needs)
+    (list-short (readTree (a .levels)) (a .count) (a .nodes) (a .place) (a .unread .now) (c .before .padding .result) (c .before .padding .ensures) (c .before .before .if1 .left) (c .if2 .taken), search needs)
 
 children-zeros-requires : (t : ℕ) → children-lts.Need-zeros-requires (children-has t) (children-at t) children.Post
 children-zeros-requires t c κs = search needs
@@ -135,7 +135,7 @@ children-zeros-requires t c κs = search needs
 children-returns-3 : (t : ℕ) → children-lts.Need-returns-3 (children-has t) (children-at t) children.Post
 children-returns-3 t c =
     let a = c .before .before .before .before .before .before .args in (
-      list-unclear (readTree (a .levels)) (a .count) (a .nodes) (a .place) (a .s .now) (c .before .before .before .padding .result) (c .before .before .before .padding .ensures) (c .before .before .before .before .if1 .left) (c .before .before .if2 .left) (sym (c .before .zeros .ensures) ∙ not-true _ (c .if3 .taken)),
+      list-unclear (readTree (a .levels)) (a .count) (a .nodes) (a .place) (a .unread .now) (c .before .before .before .padding .result) (c .before .before .before .padding .ensures) (c .before .before .before .before .if1 .left) (c .before .before .if2 .left) (sym (c .before .zeros .ensures) ∙ not-true _ (c .if3 .taken)),
       search needs,
     )
 
@@ -154,7 +154,7 @@ children-add-at t c = search needs
 children-node-requires : (t : ℕ) → children-lts.Need-node-requires (children-has t) (children-at t) children.Post
 children-node-requires t c κs =
     let a = c .before .before .before .before .before .before .before .args in let p = c .before .before .before .before .before .before .before .pre in
-    (search needs, place-in (a .s .now) (a .place) (c .before .before .before .before .padding .result) (c .before .before .before .if2 .left) (p .1))
+    (search needs, place-in (a .unread .now) (a .place) (c .before .before .before .before .padding .result) (c .before .before .before .if2 .left) (p .1))
 
 children-enum-known-used : (t : ℕ) → children-lts.Need-enum-known-used (children-has t) (children-at t) children.Post
 children-enum-known-used t c = search needs
@@ -165,15 +165,15 @@ children-enum-told t c = search needs
 children-returns-4 : (t : ℕ) → children-lts.Need-returns-4 (children-has t) (children-at t) children.Post
 children-returns-4 t c =
     let a = c .before .before .before .before .before .before .before .before .before .before .args in (
-      list-bad (readTree (a .levels)) (a .count) (a .nodes) (a .place) (a .s .now) (c .before .before .before .before .before .before .before .padding .result) (c .before .before .before .before .before .before .before .padding .ensures) (c .before .before .before .before .before .before .before .before .if1 .left) (c .before .before .before .before .before .before .if2 .left) (sym (c .before .before .before .before .before .zeros .ensures) ∙ not-false _ (c .before .before .before .before .if3 .left)) (sym (c .enum-told .given .1) ∙ c .before .before .node .ensures .0),
+      list-bad (readTree (a .levels)) (a .count) (a .nodes) (a .place) (a .unread .now) (c .before .before .before .before .before .before .before .padding .result) (c .before .before .before .before .before .before .before .padding .ensures) (c .before .before .before .before .before .before .before .before .if1 .left) (c .before .before .before .before .before .before .if2 .left) (sym (c .before .before .before .before .before .zeros .ensures) ∙ not-false _ (c .before .before .before .before .if3 .left)) (sym (c .enum-told .given .1) ∙ c .before .before .node .ensures .0),
       search needs,
     )
 
 -- a child that was read ends inside the part
 next-inside : (t : ℕ) (c : children-lts.After-known-told (children-has t) (children-at t) children.Post)
-    → c .before .before .before .before .before .before .before .before .padding .result + c .before .used .given .0 .0 ≤ length (c .before .before .before .before .before .before .before .before .before .before .before .args .s .now)
+    → c .before .before .before .before .before .before .before .before .padding .result + c .before .used .given .0 .0 ≤ length (c .before .before .before .before .before .before .before .before .before .before .before .args .unread .now)
 next-inside t c =
-    taken (c .before .before .before .before .before .before .before .before .before .before .before .args .s .now) (c .before .before .before .before .before .before .before .before .padding .result) _ (c .before .before .before .before .before .before .before .if2 .left) (rw (c .before .used .given .1) at (c .before .before .before .node .ensures .1))
+    taken (c .before .before .before .before .before .before .before .before .before .before .before .args .unread .now) (c .before .before .before .before .before .before .before .before .padding .result) _ (c .before .before .before .before .before .before .before .if2 .left) (rw (c .before .used .given .1) at (c .before .before .before .node .ensures .1))
 
 children-add-next : (t : ℕ) → children-lts.Need-add-next (children-has t) (children-at t) children.Post
 children-add-next t c = omega (arith, next-inside t c, c .before .before .before .before .before .before .before .before .before .before .before .good)
@@ -196,25 +196,25 @@ children-sub-children t c = omega (arith, c .before .before .before .before .bef
 children-children-requires : (t : ℕ) → children-lts.Need-children-requires (children-has t) (children-at t) children.Post
 children-children-requires t c κs =
     let a = c .before .before .before .before .before .before .before .before .before .before .before .before .args in let p = c .before .before .before .before .before .before .before .before .before .before .before .before .pre in
-    (omega (arith, p .0, c .before .before .before .before .before .before .before .before .before .before .if1 .left), place-in (a .s .now) (a .place) _ (next-inside t (c .before)) (p .1))
+    (omega (arith, p .0, c .before .before .before .before .before .before .before .before .before .before .if1 .left), place-in (a .unread .now) (a .place) _ (next-inside t (c .before)) (p .1))
 
 children-with-more-requires : (t : ℕ) → children-lts.Need-with-more-requires (children-has t) (children-at t) children.Post
 children-with-more-requires t c κs =
     let a = c .before .before .before .before .before .before .before .before .before .before .before .before .before .args in
     let n = next-inside t (c .before .before) in
-    omega (arith, n, taken (a .s .now) _ (listUsed (c .children .result)) n (c .children .ensures .1), c .before .before .before .before .before .before .before .before .before .before .before .before .before .pre .1)
+    omega (arith, n, taken (a .unread .now) _ (listUsed (c .children .result)) n (c .children .ensures .1), c .before .before .before .before .before .before .before .before .before .before .before .before .before .pre .1)
 
 children-returns-5 : (t : ℕ) → children-lts.Need-returns-5 (children-has t) (children-at t) children.Post
 children-returns-5 t c =
     let a = c .before .before .before .before .before .before .before .before .before .before .before .before .before .before .args in
     let v = c .before .before .before .before .used .given in
     let n = next-inside t (c .before .before .before) in (
-      c .with-more .ensures ∙ list-by (readTree (a .levels)) (a .count) (a .nodes) (a .place) (a .s .now) (c .before .before .before .before .before .before .before .before .before .before .before .padding .result) (c .before .before .before .before .before .before .before .before .before .before .before .padding .ensures) (c .before .before .before .before .before .before .before .before .before .before .before .before .if1 .left) (c .before .before .before .before .before .before .before .before .before .before .if2 .left) (sym (c .before .before .before .before .before .before .before .before .before .zeros .ensures) ∙ not-false _ (c .before .before .before .before .before .before .before .before .if3 .left))
+      c .with-more .ensures ∙ list-by (readTree (a .levels)) (a .count) (a .nodes) (a .place) (a .unread .now) (c .before .before .before .before .before .before .before .before .before .before .before .padding .result) (c .before .before .before .before .before .before .before .before .before .before .before .padding .ensures) (c .before .before .before .before .before .before .before .before .before .before .before .before .if1 .left) (c .before .before .before .before .before .before .before .before .before .before .if2 .left) (sym (c .before .before .before .before .before .before .before .before .before .zeros .ensures) ∙ not-false _ (c .before .before .before .before .before .before .before .before .if3 .left))
           (v .0 .0) (v .0 .1 .0) (c .before .children .result)
           (sym (v .1) ∙ c .before .before .before .before .before .before .node .ensures .0)
           (c .before .children .ensures .0),
       rw (c .with-more .ensures)
-          (omega (arith, more-used (c .before .before .before .before .before .before .before .before .before .before .before .padding .result + v .0 .0) (c .before .children .result), taken (a .s .now) (c .before .before .before .before .before .before .before .before .before .before .before .padding .result + v .0 .0) (listUsed (c .before .children .result)) n (c .before .children .ensures .1))),
+          (omega (arith, more-used (c .before .before .before .before .before .before .before .before .before .before .before .padding .result + v .0 .0) (c .before .children .result), taken (a .unread .now) (c .before .before .before .before .before .before .before .before .before .before .before .padding .result + v .0 .0) (listUsed (c .before .children .result)) n (c .before .children .ensures .1))),
     )
 
 node-returns : (t : ℕ) → node-lts.Need-returns (node-has t) (node-at t) node.Post
@@ -244,7 +244,7 @@ node-branch-requires t c κs = let p = c .before .before .before .before .before
 node-returns-4 : (t : ℕ) → node-lts.Need-returns-4 (node-has t) (node-at t) node.Post
 node-returns-4 t c =
     let a = c .before .before .before .before .before .before .before .before .args in
-    (c .branch .ensures .0 ∙ branch-any (readTree (a .levels - 1)) (c .before .before .before .word .result) (a .nodes - 1) (a .place) (a .s .now) ∙ ap nodeAnswer (sym (node-branch (a .levels) (a .nodes) (a .place) (a .s .now) (c .before .before .before .before .before .before .if1 .left) (c .before .before .before .before .before .if2 .left) (c .before .before .before .before .if3 .left) (c .before .before .before .word .result) (c .before .before .before .word .ensures) (sym (c .before .before .is-branch .ensures) ∙ c .before .if4 .taken))), c .branch .ensures .1)
+    (c .branch .ensures .0 ∙ branch-any (readTree (a .levels - 1)) (c .before .before .before .word .result) (a .nodes - 1) (a .place) (a .unread .now) ∙ ap nodeAnswer (sym (node-branch (a .levels) (a .nodes) (a .place) (a .unread .now) (c .before .before .before .before .before .before .if1 .left) (c .before .before .before .before .before .if2 .left) (c .before .before .before .before .if3 .left) (c .before .before .before .word .result) (c .before .before .before .word .ensures) (sym (c .before .before .is-branch .ensures) ∙ c .before .if4 .taken))), c .branch .ensures .1)
 
 node-sub-child : (t : ℕ) → node-lts.Need-sub-child (node-has t) (node-at t) node.Post
 node-sub-child t c = search needs
@@ -261,20 +261,20 @@ node-add-at t c = search needs
 node-node-requires : (t : ℕ) → node-lts.Need-node-requires (node-has t) (node-at t) node.Post
 node-node-requires t c κs =
     let a = c .before .before .before .before .before .before .before .before .before .args in let p = c .before .before .before .before .before .before .before .before .before .pre in
-    (search needs, place-in (a .s .now) (a .place) 8 (c .before .before .before .before .before .if3 .left) (p .1))
+    (search needs, place-in (a .unread .now) (a .place) 8 (c .before .before .before .before .before .if3 .left) (p .1))
 
 node-negated-requires : (t : ℕ) → node-lts.Need-negated-requires (node-has t) (node-at t) node.Post
 node-negated-requires t c κs =
     let a = c .before .before .before .before .before .before .before .before .before .before .args in
-    omega (arith, taken (a .s .now) 8 (nodeUsed (c .node .result)) (c .before .before .before .before .before .before .if3 .left) (c .node .ensures .1), c .before .before .before .before .before .before .before .before .before .before .pre .1)
+    omega (arith, taken (a .unread .now) 8 (nodeUsed (c .node .result)) (c .before .before .before .before .before .before .if3 .left) (c .node .ensures .1), c .before .before .before .before .before .before .before .before .before .before .pre .1)
 
 node-returns-5 : (t : ℕ) → node-lts.Need-returns-5 (node-has t) (node-at t) node.Post
 node-returns-5 t c =
     let a = c .before .before .before .before .before .before .before .before .before .before .before .args in (
-      c .negated .ensures ∙ not-by (readTree (a .levels - 1)) (a .nodes - 1) (a .place) (a .s .now) (c .before .node .result) (c .before .node .ensures .0)
-          ∙ ap nodeAnswer (sym (node-not (a .levels) (a .nodes) (a .place) (a .s .now) (c .before .before .before .before .before .before .before .before .before .if1 .left) (c .before .before .before .before .before .before .before .before .if2 .left) (c .before .before .before .before .before .before .before .if3 .left) (c .before .before .before .before .before .before .word .result) (c .before .before .before .before .before .before .word .ensures) (sym (c .before .before .before .before .before .is-branch .ensures) ∙ c .before .before .before .before .if4 .left) (c .before .before .before .if5 .taken))),
+      c .negated .ensures ∙ not-by (readTree (a .levels - 1)) (a .nodes - 1) (a .place) (a .unread .now) (c .before .node .result) (c .before .node .ensures .0)
+          ∙ ap nodeAnswer (sym (node-not (a .levels) (a .nodes) (a .place) (a .unread .now) (c .before .before .before .before .before .before .before .before .before .if1 .left) (c .before .before .before .before .before .before .before .before .if2 .left) (c .before .before .before .before .before .before .before .if3 .left) (c .before .before .before .before .before .before .word .result) (c .before .before .before .before .before .before .word .ensures) (sym (c .before .before .before .before .before .is-branch .ensures) ∙ c .before .before .before .before .if4 .left) (c .before .before .before .if5 .taken))),
       rw (c .negated .ensures)
-          (omega (arith, not-used (c .before .node .result), taken (a .s .now) 8 (nodeUsed (c .before .node .result)) (c .before .before .before .before .before .before .before .if3 .left) (c .before .node .ensures .1))),
+          (omega (arith, not-used (c .before .node .result), taken (a .unread .now) 8 (nodeUsed (c .before .node .result)) (c .before .before .before .before .before .before .before .if3 .left) (c .before .node .ensures .1))),
     )
 
 node-leaf-node-requires : (t : ℕ) → node-lts.Need-leaf-node-requires (node-has t) (node-at t) node.Post
@@ -283,7 +283,7 @@ node-leaf-node-requires t c κs = omega (arith, c .before .before .before .befor
 node-returns-6 : (t : ℕ) → node-lts.Need-returns-6 (node-has t) (node-at t) node.Post
 node-returns-6 t c =
     let a = c .before .before .before .before .before .before .before .before .before .args in
-    (c .leaf-node .ensures .0 ∙ ap nodeAnswer (sym (node-leaf (a .levels) (a .nodes) (a .place) (a .s .now) (c .before .before .before .before .before .before .before .if1 .left) (c .before .before .before .before .before .before .if2 .left) (c .before .before .before .before .before .if3 .left) (c .before .before .before .before .word .result) (c .before .before .before .before .word .ensures) (sym (c .before .before .before .is-branch .ensures) ∙ c .before .before .if4 .left) (c .before .if5 .left))), c .leaf-node .ensures .1)
+    (c .leaf-node .ensures .0 ∙ ap nodeAnswer (sym (node-leaf (a .levels) (a .nodes) (a .place) (a .unread .now) (c .before .before .before .before .before .before .before .if1 .left) (c .before .before .before .before .before .before .if2 .left) (c .before .before .before .before .before .if3 .left) (c .before .before .before .before .word .result) (c .before .before .before .before .word .ensures) (sym (c .before .before .before .is-branch .ensures) ∙ c .before .before .if4 .left) (c .before .if5 .left))), c .leaf-node .ensures .1)
 
 pub +branch+children+node-spec : {M : Type 1} → statement M
 +branch+children+node-spec =

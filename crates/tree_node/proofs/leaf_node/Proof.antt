@@ -22,7 +22,7 @@ returns-2 c =
     let a = c .before .before .before .before .before .args in
     let v = c .before .used .given in
     let e = sym (c .before .before .before .read-leaf .ensures) ∙ v .1 in
-    (rw e, leaf-read (a .kind) (a .s .now) (a .place) (v .0 .0) (v .0 .1 .0) e .inside)
+    (rw e, leaf-read (a .kind) (a .unread .now) (a .place) (v .0 .0) (v .0 .1 .0) e .inside)
 
 pub leaf-node-spec : {M : Type 1} → statement M
 leaf-node-spec =

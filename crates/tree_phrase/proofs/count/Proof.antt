@@ -5,7 +5,7 @@ use Rattle.tree_phrase.proofs.count.Statement.{statement}
 use Rattle.tree_phrase.proofs.count.Tie as tie
 
 returns : tie.Need-returns
-returns c = omega (arith, halves-length (c .args .s .now))
+returns c = omega (arith, halves-length (c .args .units .now))
 
 pub count-spec : {M : Type 1} → statement M
 count-spec = tie.close (tie.spec returns)

@@ -39,14 +39,14 @@ loop-less c = search needs
 
 loop-again : tie.Need-loop-again Inv-loop μ-loop
 loop-again c = let l = c .before .before .loop in
-    let s = c .before .before .before .before .args .s .now in
+    let s = c .before .before .before .before .args .body .now in
     (search needs, search needs, omega (arith, c .word .ok), omega (arith, sum-more (l .k) s))
 
 mul-if1 : tie.Need-mul-if1 Inv-loop μ-loop
 mul-if1 c = search needs
 
 returns : tie.Need-returns Inv-loop μ-loop
-returns c = let s = c .before .before .before .before .args .s .now in omega (arith, sum-whole (c .before .before .loop .k) s (c .if1 .taken))
+returns c = let s = c .before .before .before .before .args .body .now in omega (arith, sum-whole (c .before .before .loop .k) s (c .if1 .taken))
 
 mul-last-word : tie.Need-mul-last-word Inv-loop μ-loop
 mul-last-word c = search needs
@@ -61,7 +61,7 @@ add-result : tie.Need-add-result Inv-loop μ-loop
 add-result c = search needs
 
 returns-2 : tie.Need-returns-2 Inv-loop μ-loop
-returns-2 c = let s = c .before .before .before .before .before .args .s .now in
+returns-2 c = let s = c .before .before .before .before .before .args .body .now in
     omega (arith, sum-short (c .before .before .before .loop .k) s (search needs) (search needs))
 
 pub body-sum-spec : {M : Type 1} → statement M

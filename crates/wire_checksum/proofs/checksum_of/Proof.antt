@@ -40,7 +40,7 @@ sub-result c = search needs
 
 returns : tie.Need-returns
 unfolding checksum
-returns c = cc (rest 16 (c .before .before .before .before .args .m .now))
+returns c = cc (rest 16 (c .before .before .before .before .args .message .now))
 
 pub checksum-of-spec : {M : Type 1} → statement M
 checksum-of-spec =

@@ -32,27 +32,27 @@ room-requires c κs = search needs
 
 returns : tie.Need-returns Inv-loop μ-loop
 returns c = let a = c .before .before .before .args in
-    sym (padded-past (a .unit) (a .m .now) (a .at) (sym (c .before .room .ensures) ∙ not-true _ (c .if1 .taken)))
+    sym (padded-past (a .unit) (a .message .now) (a .at) (sym (c .before .room .ensures) ∙ not-true _ (c .if1 .taken)))
 
 loop-holds : tie.Need-loop-holds Inv-loop μ-loop
 loop-holds c = (search needs, λ j h. absurd (omega arith))
 
 add-place : tie.Need-add-place Inv-loop μ-loop
 add-place c = let a = c .before .before .before .before .before .args in
-    omega (arith, room-there (a .at) (padCount (a .unit) (a .at)) (length (a .m .now)) (c .before .before .before .room .ensures) (c .before .before .if1 .left))
+    omega (arith, room-there (a .at) (padCount (a .unit) (a .at)) (length (a .message .now)) (c .before .before .before .room .ensures) (c .before .before .if1 .left))
 
 shared-slice-read-if2 : tie.Need-shared-slice-read-if2 Inv-loop μ-loop
 shared-slice-read-if2 c = let a = c .before .before .before .before .before .before .args in
-    omega (arith, room-there (a .at) (padCount (a .unit) (a .at)) (length (a .m .now)) (c .before .before .before .before .room .ensures) (c .before .before .before .if1 .left))
+    omega (arith, room-there (a .at) (padCount (a .unit) (a .at)) (length (a .message .now)) (c .before .before .before .before .room .ensures) (c .before .before .before .if1 .left))
 
 returns-2 : tie.Need-returns-2 Inv-loop μ-loop
 returns-2 c = let a = c .before .before .before .before .before .before .before .args in
-    sym (padded-broken (a .unit) (a .m .now) (a .at) (sym (c .before .before .before .before .before .room .ensures) ∙ not-false _ (c .before .before .before .before .if1 .left))
+    sym (padded-broken (a .unit) (a .message .now) (a .at) (sym (c .before .before .before .before .before .room .ensures) ∙ not-false _ (c .before .before .before .before .if1 .left))
     (c .before .before .before .loop .i) (c .before .before .loop-test .taken) (c .if2 .taken))
 
 add-i : tie.Need-add-i Inv-loop μ-loop
 add-i c = let a = c .before .before .before .before .before .before .before .args in
-    omega (arith, room-there (a .at) (padCount (a .unit) (a .at)) (length (a .m .now)) (c .before .before .before .before .before .room .ensures) (c .before .before .before .before .if1 .left))
+    omega (arith, room-there (a .at) (padCount (a .unit) (a .at)) (length (a .message .now)) (c .before .before .before .before .before .room .ensures) (c .before .before .before .before .if1 .left))
 
 loop-less : tie.Need-loop-less Inv-loop μ-loop
 loop-less c = search needs
@@ -63,12 +63,12 @@ loop-again c = let l = c .before .before .before .loop in
 
 add-next : tie.Need-add-next Inv-loop μ-loop
 add-next c = let a = c .before .before .before .before .before .args in
-    omega (arith, room-there (a .at) (padCount (a .unit) (a .at)) (length (a .m .now)) (c .before .before .before .room .ensures) (c .before .before .if1 .left))
+    omega (arith, room-there (a .at) (padCount (a .unit) (a .at)) (length (a .message .now)) (c .before .before .before .room .ensures) (c .before .before .if1 .left))
 
 returns-3 : tie.Need-returns-3 Inv-loop μ-loop
 returns-3 c = let a = c .before .before .before .before .before .args in
     let l = c .before .loop in
-    sym (padded-passed (a .unit) (a .m .now) (a .at) (sym (c .before .before .before .room .ensures) ∙ not-false _ (c .before .before .if1 .left)) (λ j h. l .inv .1 j (omega arith)))
+    sym (padded-passed (a .unit) (a .message .now) (a .at) (sym (c .before .before .before .room .ensures) ∙ not-false _ (c .before .before .if1 .left)) (λ j h. l .inv .1 j (omega arith)))
 
 pub padded-on-spec : {M : Type 1} → statement M
 padded-on-spec =

@@ -17,13 +17,13 @@ unfolding propertyOn
 returns c = rw (sym (c .before .room .ensures) ∙ not-true _ (c .if1 .taken))
 
 add-next : tie.Need-add-next
-add-next c = let a = c .before .before .before .args in omega (arith, room-there (a .at) 24 (length (a .m .now)) (c .before .room .ensures) (c .if1 .left))
+add-next c = let a = c .before .before .before .args in omega (arith, room-there (a .at) 24 (length (a .message .now)) (c .before .room .ensures) (c .if1 .left))
 
 add-word : tie.Need-add-word
-add-word c = let a = c .before .before .before .args in omega (arith, room-there (a .at) 24 (length (a .m .now)) (c .before .room .ensures) (c .if1 .left))
+add-word c = let a = c .before .before .before .args in omega (arith, room-there (a .at) 24 (length (a .message .now)) (c .before .room .ensures) (c .if1 .left))
 
 word-requires : tie.Need-word-requires
-word-requires c κs = let a = c .before .before .before .args in omega (arith, room-there (a .at) 24 (length (a .m .now)) (c .before .room .ensures) (c .if1 .left))
+word-requires c κs = let a = c .before .before .before .args in omega (arith, room-there (a .at) 24 (length (a .message .now)) (c .before .room .ensures) (c .if1 .left))
 
 returns-2 : tie.Need-returns-2
 unfolding propertyOn
@@ -35,7 +35,7 @@ returns-2 c =
     )
 
 set-ours-requires : tie.Need-set-ours-requires
-set-ours-requires c κs = let a = c .before .before .before .before .before .args in omega (arith, room-there (a .at) 24 (length (a .m .now)) (c .before .before .before .room .ensures) (c .before .before .if1 .left))
+set-ours-requires c κs = let a = c .before .before .before .before .before .args in omega (arith, room-there (a .at) 24 (length (a .message .now)) (c .before .before .before .room .ensures) (c .before .before .if1 .left))
 
 returns-3 : tie.Need-returns-3
 unfolding propertyOn
@@ -48,10 +48,10 @@ returns-3 c =
     )
 
 add-word-2 : tie.Need-add-word-2
-add-word-2 c = let a = c .before .before .before .before .before .before .before .args in omega (arith, room-there (a .at) 24 (length (a .m .now)) (c .before .before .before .before .before .room .ensures) (c .before .before .before .before .if1 .left))
+add-word-2 c = let a = c .before .before .before .before .before .before .before .args in omega (arith, room-there (a .at) 24 (length (a .message .now)) (c .before .before .before .before .before .room .ensures) (c .before .before .before .before .if1 .left))
 
 word-requires-2 : tie.Need-word-requires-2
-word-requires-2 c κs = let a = c .before .before .before .before .before .before .before .args in omega (arith, room-there (a .at) 24 (length (a .m .now)) (c .before .before .before .before .before .room .ensures) (c .before .before .before .before .if1 .left))
+word-requires-2 c κs = let a = c .before .before .before .before .before .before .before .args in omega (arith, room-there (a .at) 24 (length (a .message .now)) (c .before .before .before .before .before .room .ensures) (c .before .before .before .before .if1 .left))
 
 returns-4 : tie.Need-returns-4
 unfolding propertyOn

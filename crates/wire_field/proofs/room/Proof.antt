@@ -8,10 +8,10 @@ use mathlib.Core.Path.{sym}
 use Rattle.wire.proofs.Fields.{room-shift}
 
 returns : tie.Need-returns
-returns c = let a = c .before .args in sym (lt-leb (a .at + a .n) (a .len) (omega arith))
+returns c = let a = c .before .args in sym (lt-leb (a .at + a .count) (a .size) (omega arith))
 
 returns-2 : tie.Need-returns-2
-returns-2 c = let a = c .before .args in room-shift (a .len) (a .at) (a .n) (c .if1 .left)
+returns-2 c = let a = c .before .args in room-shift (a .size) (a .at) (a .count) (c .if1 .left)
 
 pub room-spec : {M : Type 1} → statement M
 room-spec = tie.close (tie.spec returns returns-2)

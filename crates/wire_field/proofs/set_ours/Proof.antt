@@ -32,7 +32,7 @@ add-if1 c = search needs
 
 returns : tie.Need-returns Inv-loop μ-loop
 returns c = let l = c .before .before .before .loop in let a = c .before .before .before .before .args in
-    sym (set-other (a .m .now) (a .at) (l .i) (c .before .before .loop-test .taken) (c .if1 .taken))
+    sym (set-other (a .message .now) (a .at) (l .i) (c .before .before .loop-test .taken) (c .if1 .taken))
 
 add-i : tie.Need-add-i Inv-loop μ-loop
 add-i c = search needs
@@ -46,7 +46,7 @@ loop-again c = let l = c .before .before .before .loop in
 
 returns-2 : tie.Need-returns-2 Inv-loop μ-loop
 returns-2 c = let l = c .before .loop in let a = c .before .before .args in
-    sym (set-same (a .m .now) (a .at) (λ j h. l .inv .1 j (omega arith)))
+    sym (set-same (a .message .now) (a .at) (λ j h. l .inv .1 j (omega arith)))
 
 pub set-ours-spec : {M : Type 1} → statement M
 set-ours-spec =

@@ -12,7 +12,7 @@ returns : tie.Need-returns
 returns c = search needs
 
 returns-2 : tie.Need-returns-2
-returns-2 c = (sym (List·getD-eq-default (c .before .before .args .s .now) 0 (c .if1 .left)), search needs)
+returns-2 c = (sym (List·getD-eq-default (c .before .before .args .bytes .now) 0 (c .if1 .left)), search needs)
 
 pub byte-or-zero-spec : {M : Type 1} → statement M
 byte-or-zero-spec = tie.close (tie.spec byte-requires returns returns-2)

@@ -21,7 +21,7 @@ add-result : tie.Need-add-result
 add-result c = search needs
 
 returns : tie.Need-returns
-returns c = omega (arith, half-at (c .before .before .before .args .s .now) (c .before .before .before .args .at))
+returns c = omega (arith, half-at (c .before .before .before .args .bytes .now) (c .before .before .before .args .at))
 
 pub half-spec : {M : Type 1} → statement M
 half-spec =

@@ -30,7 +30,7 @@ joined-requires : tie.Need-joined-requires
 joined-requires c κs = search needs
 
 returns : tie.Need-returns
-returns c = let a = c .before .before .before .before .before .before .args in omega (arith, word-at (a .s .now) (a .at))
+returns c = let a = c .before .before .before .before .before .before .args in omega (arith, word-at (a .bytes .now) (a .at))
 
 pub last-word-spec : {M : Type 1} → statement M
 last-word-spec =
