@@ -24,7 +24,8 @@ use Rattle.bindings.specs.declared.ColumnRead.{ColumnRead}
 use Rattle.wire.specs.Fields.{ofPlace, ofNumber, withRead, padCount, paddedOn, numberOn, flagOn, setSize, setFirst, setOurs, numbered, kindAt, propertyAt, specSize, propertyOn}
 use Rattle.bindings.specs.Wire.{ofSpot, ofValue, ofColumn, spotOn, valueOn, typeWidth, columnOn}
 use Rattle.bindings.specs.Bindings.{columnsAt, before, columnsOn, bindingsOn}
-use Rattle.bindings.specs.Plain.{Parsed, andThen, bytes, numeral, zeroBytes, padding, flag, spot, value, isOurs, property, column, columns, bindings}
+use Rattle.lists.specs.Options.{andThen}
+use Rattle.bindings.specs.Plain.{Parsed, bytes, numeral, zeroBytes, padding, flag, spot, value, isOurs, property, column, columns, bindings}
 
 -- what the parser gives is what the reader gives, with the bytes from the place after it, which lies in the message
 abbrev Agree : {A : Type 0} → List ℕ → Parsed A → Option (A × ℕ) → Type 0
@@ -33,7 +34,7 @@ Agree m p (some r) = (p ≡ some (r .0, r .1, drop (r .1) m)) × (r .1 ≤ lengt
 
 -- what follows agrees too, and so does a choice
 bind : {A B R : Type 0} (Goal : Option B → R → Type 0) (bad : R) → Goal none bad → (m : List ℕ) (p : Parsed A) (o : Option (A × ℕ)) → Agree m p o
-    → (g : A → ℕ → List ℕ → Option B) (f : A → ℕ → R) → ((a : A) (next : ℕ) → next ≤ length m → Goal (g a next (drop next m)) (f a next))
+    → (g : A × ℕ × List ℕ → Option B) (f : A → ℕ → R) → ((a : A) (next : ℕ) → next ≤ length m → Goal (g (a, next, drop next m)) (f a next))
     → Goal (andThen p g) (withRead o bad f)
 bind Goal bad z m p none e g f h = rw e z
 bind Goal bad z m p (some r) e g f h = rw (e .0) (h (r .0) (r .1) (e .1))
@@ -58,15 +59,15 @@ module _ (n : ℕ) (m : List ℕ) (at : ℕ) (h : at ≤ length m) where
       (λ q. rw (q, bytes-past (leb-false (at + n) (length m) q)))
 
   -- nothing comes of them where nothing comes of what follows
-  bytes-none : {B : Type 0} (g : List ℕ → ℕ → List ℕ → Option B)
-      → ((b : List ℕ) → at + n ≤ length m → g b (at + n) (drop (at + n) m) ≡ none) → andThen (bytes n at (drop at m)) g ≡ none
+  bytes-none : {B : Type 0} (g : List ℕ × ℕ × List ℕ → Option B)
+      → ((b : List ℕ) → at + n ≤ length m → g (b, at + n, drop (at + n) m) ≡ none) → andThen (bytes n at (drop at m)) g ≡ none
   bytes-none g f =
       by-test (leb (at + n) (length m))
       (λ q. rw (bytes-there (leb-true (at + n) (length m) q)) (f (take n (drop at m)) (leb-true (at + n) (length m) q)))
       (λ q. rw (bytes-past (leb-false (at + n) (length m) q)))
 
-  number-none : {B : Type 0} (g : ℕ → ℕ → List ℕ → Option B)
-      → ((v : ℕ) → at + n ≤ length m → g v (at + n) (drop (at + n) m) ≡ none) → andThen (numeral n at (drop at m)) g ≡ none
+  number-none : {B : Type 0} (g : ℕ × ℕ × List ℕ → Option B)
+      → ((v : ℕ) → at + n ≤ length m → g (v, at + n, drop (at + n) m) ≡ none) → andThen (numeral n at (drop at m)) g ≡ none
   number-none g f =
       by-test (leb (at + n) (length m))
       (λ q. rw (bytes-there (leb-true (at + n) (length m) q)) (f (number (take n (drop at m))) (leb-true (at + n) (length m) q)))

@@ -8,15 +8,17 @@ use native.Mathlib.Numerals.{add-one, add-two, add-three, add-four, add-five, ad
 use native.Mathlib.Omega.{arith}
 use borrow.Author.Tests.{lt-ltb, le-ltb, ltb-true, ltb-false, leb-true, leb-false, lt-leb}
 use lib.Dec.{ltb, leb}
-use lib.ListN.{length, getD, take, drop, set, length-append, length-replicate, replicate-append-replicate}
-use lib.Seq.{sets-eq, take-at, drop-at, take-append-add, drop-append-add, getD-append-add}
+use lib.ListN.{length, getD, take, drop, set, length-append}
+use lib.Seq.{sets-eq, take-at, take-append-add, drop-append-add, getD-append-add}
 use Rattle.lists.specs.Below.{both}
 use Rattle.lists.proofs.Below.{by-test}
-use Rattle.bindings.specs.Column.{columnAt, columnsFrom, columnsOf, recordOf, recordsOf, zeros, noWords, wordsOf, kept, keptAll, columnsMost}
+use Rattle.bindings.specs.Column.{columnAt, columnsFrom, columnsOf, recordOf, recordsOf, noWords, wordsOf, kept, keptAll, columnsMost}
+use Rattle.lists.specs.Parts.{zeros}
 use Rattle.wire.specs.Property.{within}
 use Rattle.bindings.specs.Fit.{fit, rowMost, columnsFit}
 use Rattle.bindings.specs.declared.Column.{Column}
 use Rattle.bindings.proofs.Columns.{from-length}
+use Rattle.lists.proofs.Parts.{take-zeros, drop-zeros}
 
 -- nine stores in a row
 pub nine-stores : (l : List ℕ) (i a₀ a₁ a₂ a₃ a₄ a₅ a₆ a₇ a₈ : ℕ) → i + 9 ≤ length l
@@ -25,20 +27,6 @@ pub nine-stores : (l : List ℕ) (i a₀ a₁ a₂ a₃ a₄ a₅ a₆ a₇ a₈
 nine-stores l i a₀ a₁ a₂ a₃ a₄ a₅ a₆ a₇ a₈ h =
     rw (add-one, add-two, add-three, add-four, add-five, add-six, add-seven, add-eight)
     (sets-eq (a₀ ∷ a₁ ∷ a₂ ∷ a₃ ∷ a₄ ∷ a₅ ∷ a₆ ∷ a₇ ∷ a₈ ∷ []) l i h)
-
--- zeros
-module _ (n m : ℕ) (h : n ≤ m) where
-  zeros-split : zeros m ≡ zeros n ++ zeros (m - n)
-  zeros-split = ap zeros more ∙ sym (replicate-append-replicate n (m - n) 0)
-    where
-      more : m ≡ n + (m - n)
-      more = omega arith
-
-  take-zeros : take n (zeros m) ≡ zeros n
-  take-zeros = ap (take n) zeros-split ∙ take-at (zeros n) (zeros (m - n)) n (length-replicate n 0)
-
-  drop-zeros : drop n (zeros m) ≡ zeros (m - n)
-  drop-zeros = ap (drop n) zeros-split ∙ drop-at (zeros n) (zeros (m - n)) n (length-replicate n 0)
 
 -- past the room nothing is kept
 full : (s : List Column) (k : ℕ) (words : List ℕ) → 5 ≤ k → keptAll k words s ≡ words
@@ -59,7 +47,7 @@ kept-next p k c e h =
     after =
         ap (λ (n : ℕ). drop (n + 9) (p ++ zeros (45 - 9 * k))) (sym e)
         ∙ drop-append-add p (zeros (45 - 9 * k)) 9
-        ∙ drop-zeros 9 (45 - 9 * k) (omega arith)
+        ∙ drop-zeros 9 (45 - 9 * k)
 
 -- columns kept after a whole number of records
 kept-after : (s : List Column) (k : ℕ) (p : List ℕ) → length p ≡ 9 * k → k ≤ 5

@@ -11,6 +11,7 @@ use Rattle.bindings.specs.declared.Column.{Column}
 use Rattle.bindings.specs.Column.{keptAll}
 use Rattle.wire.specs.Fields.{ofPlace, withRead, paddedOn}
 use Rattle.bindings.specs.Wire.{ofColumn, columnOn}
+use Rattle.lists.specs.Options.{andThen}
 
 -- the places of the body's fields, counted from the message's first byte
 abbrev pub handleAt : ℕ
@@ -46,17 +47,12 @@ columnsOn zero m at = pick (eqb at (length m)) (some []) none
 columnsOn (suc n) m at =
     withRead (ofPlace (paddedOn 4 m at)) none (λ _ place. withRead (ofColumn (columnOn m place)) none (λ c next. before c (columnsOn n m next)))
 
--- columns that were read are handed on
-abbrev pub withColumns : Option (List Column) → (List Column → Option Bindings) → Option Bindings
-withColumns none f = none
-withColumns (some s) f = f s
-
 -- "ends early or has bytes left, .. _cbBindingDesc not the bytes after _dummy", which begin with cColumns; _dummy is not judged
 unfoldable pub bindingsOn : List ℕ → Option Bindings
 bindingsOn m =
     pick (leb columnsAt (length m))
     (pick (eqb (numberAt 4 m describedAt) (length m - countAt))
-    (withColumns (columnsOn (numberAt 4 m countAt) m columnsAt) (λ s.
+    (andThen (columnsOn (numberAt 4 m countAt) m columnsAt) (λ s.
     some (record { handle = numberAt 4 m handleAt; width = numberAt 4 m widthAt; columns = s })))
     none)
     none

@@ -2,9 +2,10 @@
 use mathlib.Core.List.{List, [], _∷_, _++_}
 use Prim.Native.Nat.{ℕ, zero, suc, _+_, _*_}
 use lib.Dec.{ltb}
-use lib.ListN.{getD, take, drop, replicate}
+use lib.ListN.{getD, take, drop}
 use Rattle.lists.specs.Below.{pick}
 use Rattle.bindings.specs.declared.Column.{Column}
+use Rattle.lists.specs.Parts.{zeros}
 
 -- 01: "columns not 1 to 5", so there is room for five; nine words a column
 abbrev pub columnsMost : ℕ
@@ -58,10 +59,6 @@ recordOf c =
 unfoldable pub recordsOf : List Column → List ℕ
 recordsOf [] = []
 recordsOf (c ∷ s) = recordOf c ++ recordsOf s
-
--- room for five columns, all of it zero
-abbrev pub zeros : ℕ → List ℕ
-zeros n = replicate n 0
 
 abbrev pub noWords : List ℕ
 noWords = zeros roomWords

@@ -7,6 +7,7 @@ use Prim.Native.Nat.{ℕ, zero, suc, _+_}
 use lib.Dec.{leb, eqb}
 use lib.ListN.{length, getD, take, drop}
 use Rattle.lists.specs.Below.{pick, everyBelow}
+use Rattle.lists.specs.Options.{andThen}
 use Rattle.wire.specs.Checksum.{headerSize}
 use Rattle.wire.specs.Word.{number}
 use Rattle.bindings.specs.declared.Value.{Value}
@@ -14,23 +15,18 @@ use Rattle.bindings.specs.declared.Spot.{Spot}
 use Rattle.bindings.specs.declared.Column.{Column}
 use Rattle.wire.specs.Fields.{padCount, setSize, setFirst, numbered}
 use Rattle.bindings.specs.Wire.{typeWidth}
-use Rattle.bindings.specs.Bindings.{Bindings, before, withColumns}
+use Rattle.bindings.specs.Bindings.{Bindings, before}
 
 -- what was read, the place after it, and the bytes that are left; none where the body is malformed
 abbrev pub Parsed : Type 0 → Type 0
 Parsed A = Option (A × ℕ × List ℕ)
-
--- what was read is handed on
-abbrev pub andThen : {A B : Type 0} → Parsed A → (A → ℕ → List ℕ → Option B) → Option B
-andThen none f = none
-andThen (some r) f = f (r .0) (r .1) (r .2)
 
 -- the next n bytes, and the number that they hold; a body that "ends early" is malformed
 abbrev pub bytes : ℕ → ℕ → List ℕ → Parsed (List ℕ)
 bytes n at s = pick (leb n (length s)) (some (take n s, at + n, drop n s)) none
 
 abbrev pub numeral : ℕ → ℕ → List ℕ → Parsed ℕ
-numeral n at s = andThen (bytes n at s) (λ b at s. some (number b, at, s))
+numeral n at s = andThen (bytes n at s) (λ (b, at, s). some (number b, at, s))
 
 -- zero bytes up to the next multiple of a unit; "padding not zero" is malformed
 unfoldable pub zeroBytes : ℕ → ℕ → List ℕ → Parsed (Unit {0})
@@ -49,16 +45,16 @@ flag at (b ∷ s) = pick (leb b 1) (some (b, at + 1, s)) none
 -- StatusUsed and StatusOffset, LengthUsed and LengthOffset; the offset begins at an even place
 unfoldable pub spot : ℕ → List ℕ → Parsed Spot
 spot at s =
-    andThen (flag at s) (λ used at s.
+    andThen (flag at s) (λ (used, at, s).
     pick (eqb used 0) (some (record { used = 0; offset = 0 }, at, s))
-    (andThen (padding 2 at s) (λ _ at s. andThen (numeral 2 at s) (λ offset at s. some (record { used = used; offset = offset }, at, s)))))
+    (andThen (padding 2 at s) (λ (_, at, s). andThen (numeral 2 at s) (λ (offset, at, s). some (record { used = used; offset = offset }, at, s)))))
 
 -- ValueUsed, ValueOffset, ValueSize
 unfoldable pub value : ℕ → List ℕ → Parsed Value
 value at s =
-    andThen (spot at s) (λ p at s.
+    andThen (spot at s) (λ (p, at, s).
     pick (eqb (p .used) 0) (some (record { used = 0; offset = 0; size = 0 }, at, s))
-    (andThen (numeral 2 at s) (λ size at s. some (record { used = p .used; offset = p .offset; size = size }, at, s))))
+    (andThen (numeral 2 at s) (λ (size, at, s). some (record { used = p .used; offset = p .offset; size = size }, at, s))))
 
 -- our set identifier: "the sixteen bytes 0x10, 0x11 and so on to 0x1F"
 abbrev pub isOurs : List ℕ → Bool
@@ -68,36 +64,36 @@ isOurs set = everyBelow setSize (λ i. eqb (getD set i 0) (setFirst + i))
 -- one, and 0 is no known property
 unfoldable pub property : ℕ → List ℕ → Parsed ℕ
 property at s =
-    andThen (bytes setSize at s) (λ set at s.
-    andThen (numeral 4 at s) (λ kind at s.
-    andThen (numeral 4 at s) (λ v at s. pick (eqb kind numbered) (some (pick (isOurs set) v 0, at, s)) none)))
+    andThen (bytes setSize at s) (λ (set, at, s).
+    andThen (numeral 4 at s) (λ (kind, at, s).
+    andThen (numeral 4 at s) (λ (v, at, s). pick (eqb kind numbered) (some (pick (isOurs set) v 0, at, s)) none)))
 
 -- CTableColumn
 unfoldable pub column : ℕ → List ℕ → Parsed Column
 column at s =
-    andThen (property at s) (λ p at s.
-    andThen (numeral typeWidth at s) (λ vtype at s.
-    andThen (value at s) (λ v at s.
-    andThen (spot at s) (λ status at s.
-    andThen (spot at s) (λ length at s.
+    andThen (property at s) (λ (p, at, s).
+    andThen (numeral typeWidth at s) (λ (vtype, at, s).
+    andThen (value at s) (λ (v, at, s).
+    andThen (spot at s) (λ (status, at, s).
+    andThen (spot at s) (λ (length, at, s).
     some (record { property = p; vtype = vtype; value = v; status = status; length = length }, at, s))))))
 
 -- so many columns, each after its padding; a body that "has bytes left" is malformed
 unfoldable pub columns : ℕ → ℕ → List ℕ → Option (List Column)
 columns zero at [] = some []
 columns zero at (b ∷ s) = none
-columns (suc n) at s = andThen (padding 4 at s) (λ _ at s. andThen (column at s) (λ c at s. before c (columns n at s)))
+columns (suc n) at s = andThen (padding 4 at s) (λ (_, at, s). andThen (column at s) (λ (c, at, s). before c (columns n at s)))
 
 -- header, _hCursor, _cbRow, _cbBindingDesc, _dummy, cColumns, columns: "_cbBindingDesc not the bytes after _dummy" is malformed, _dummy
 -- itself is not judged
 unfoldable pub bindings : List ℕ → Option Bindings
 bindings m =
-    andThen (bytes headerSize 0 m) (λ header at s.
-    andThen (numeral 4 at s) (λ handle at s.
-    andThen (numeral 4 at s) (λ width at s.
-    andThen (numeral 4 at s) (λ described at s.
-    andThen (numeral 4 at s) (λ dummy at s.
+    andThen (bytes headerSize 0 m) (λ (header, at, s).
+    andThen (numeral 4 at s) (λ (handle, at, s).
+    andThen (numeral 4 at s) (λ (width, at, s).
+    andThen (numeral 4 at s) (λ (described, at, s).
+    andThen (numeral 4 at s) (λ (dummy, at, s).
     pick (eqb described (length s))
-    (andThen (numeral 4 at s) (λ count at s.
-    withColumns (columns count at s) (λ c. some (record { handle = handle; width = width; columns = c }))))
+    (andThen (numeral 4 at s) (λ (count, at, s).
+    andThen (columns count at s) (λ c. some (record { handle = handle; width = width; columns = c }))))
     none)))))

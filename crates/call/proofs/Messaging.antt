@@ -7,7 +7,8 @@ use native.Mathlib.Omega.{arith}
 use borrow.Author.Tests.{ne-eqb, lt-ltb, le-ltb, le-leb, lt-leb}
 use lib.ListN.{length}
 use Rattle.wire.specs.Checksum.{messageSized}
-use Rattle.table.specs.Layout.{seatSize, seatAt, put}
+use Rattle.table.specs.Layout.{seatSize, seatAt}
+use Rattle.lists.specs.Parts.{put}
 use Rattle.catalogue.specs.Plain.{rowsOf}
 use Rattle.refusal.specs.Refusal.{firstCause}
 use Rattle.message.specs.Message.{seatMessage}

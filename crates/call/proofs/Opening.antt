@@ -15,7 +15,8 @@ use Rattle.catalogue.specs.Plain.{catalogue}
 use Rattle.catalogue.specs.Places.{checked}
 use Rattle.tree.specs.Noted.{Noted}
 use Rattle.tree.proofs.SelectLaws.{noted-by-check}
-use Rattle.table.specs.Layout.{seats, cursorSize, cursorPlace, part, put, blockOf}
+use Rattle.table.specs.Layout.{seats, cursorSize, cursorPlace, blockOf}
+use Rattle.lists.specs.Parts.{part, put}
 use Rattle.table.specs.Seat.{Cursor, Seat, cursorBlock, seatBlock, withCursor}
 use Rattle.table.specs.Well.{tableWell}
 use Rattle.table.specs.Fits.{CursorOk, SeatOk}

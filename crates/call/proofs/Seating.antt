@@ -9,7 +9,8 @@ use native.Mathlib.Omega.{arith}
 use borrow.Author.Tests.{eq-eqb, ne-eqb}
 use lib.ListN.{getD, drop}
 use lib.Seq.{getD-take, getD-drop}
-use Rattle.table.specs.Layout.{seats, seatSize, seatAt, put, blockOf}
+use Rattle.table.specs.Layout.{seats, seatSize, seatAt, blockOf}
+use Rattle.lists.specs.Parts.{put}
 use Rattle.table.specs.Seat.{Seat, seatBlock}
 use Rattle.table.specs.Well.{tableWell}
 use Rattle.table.specs.Fits.{SeatOk}

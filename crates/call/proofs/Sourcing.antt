@@ -18,7 +18,7 @@ use Rattle.tree.specs.Noted.{Noted}
 use Rattle.tree.proofs.SelectLaws as Laws
 use Rattle.table.specs.Layout.{seats, seatSize}
 use Rattle.table.specs.Well.{seatBelow}
-use Rattle.table.proofs.Judging.{part-is}
+use Rattle.lists.proofs.Parts.{part-is}
 use Rattle.fetch.specs.Ready.{Placed}
 use Rattle.message.specs.Answers.{Sourced}
 use Rattle.call.specs.Step.{rowsHold, seatHeld}

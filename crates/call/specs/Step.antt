@@ -9,7 +9,8 @@ use lib.ListN.{length, drop}
 use Rattle.lists.specs.Below.{pick}
 use Rattle.wire.specs.Checksum.{messageSized}
 use Rattle.catalogue.specs.Plain.{Row, catalogue, rowsOf}
-use Rattle.table.specs.Layout.{seatSize, seatAt, put, blockOf}
+use Rattle.table.specs.Layout.{seatSize, seatAt, blockOf}
+use Rattle.lists.specs.Parts.{put}
 use Rattle.table.specs.Seat.{Seat, seatBlock, seatOf, fresh}
 use Rattle.table.specs.Well.{tableWell, tableBelow}
 use Rattle.refusal.specs.Refusal.{firstCause}

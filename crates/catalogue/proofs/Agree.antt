@@ -19,7 +19,8 @@ use Rattle.catalogue.specs.Reading.{placed, readingAt}
 use Rattle.catalogue.specs.declared.Reading.{Reading}
 use Rattle.catalogue.specs.declared.Reading.the-variants.{Number, Malformed}
 use Rattle.catalogue.specs.Limits.{rowsMost, keyMost, numberMost, sizeMost, bytesMost}
-use Rattle.catalogue.specs.Plain.{Row, andThen, noneZero, textAfter, text, row, rows, whole, catalogue, refusalOf}
+use Rattle.lists.specs.Options.{andThen}
+use Rattle.catalogue.specs.Plain.{Row, noneZero, textAfter, text, row, rows, whole, catalogue, refusalOf}
 use Rattle.catalogue.specs.Places.{withNumber, withText, withRow, textAfterAt, textAt, rowAt, rowsEnd, placesFrom, counted, malformed, checked, places, textOf, rowOf, rowSeen}
 use Rattle.catalogue.specs.declared.Text.{Text}
 use Rattle.catalogue.specs.declared.Fields.{Fields}
@@ -53,7 +54,7 @@ number-seen limit s at = go (within limit (groups (drop at s)))
 
 -- a reader after a number
 module _ {X B : Type 0} (s : List ℕ) (seen : X → Option B) (bad : X) (bad-seen : seen bad ≡ none) where
-  after-number : (limit at : ℕ) (f : ℕ → List ℕ → Option B) (g : ℕ → ℕ → X) → ((v p : ℕ) → f v (drop p s) ≡ seen (g v p))
+  after-number : (limit at : ℕ) (f : ℕ × List ℕ → Option B) (g : ℕ → ℕ → X) → ((v p : ℕ) → f (v, drop p s) ≡ seen (g v p))
       → andThen (number limit (drop at s)) f ≡ seen (withNumber (readingAt limit s at) bad g)
   after-number limit at f g h = rw (number-seen limit s at) (go (readingAt limit s at))
     where
@@ -75,12 +76,12 @@ units-seen s (suc n) p =
 
 pub text-seen : (s : List ℕ) (at : ℕ) → text (drop at s) ≡ seenText s (textAt s at)
 unfolding text textAt
-text-seen s at = after-number s (seenText s) NoText refl sizeMost at textAfter (textAfterAt s) (units-seen s)
+text-seen s at = after-number s (seenText s) NoText refl sizeMost at _ (textAfterAt s) (units-seen s)
 
 -- a reader after a text
 module _ (s : List ℕ) where
-  after-text : (at : ℕ) (f : Option (List ℕ) → List ℕ → Option (Row × List ℕ)) (g : Text → ℕ → RowAt)
-      → ((t : Text) (p : ℕ) → f (textOf s t) (drop p s) ≡ seenRow s (g t p)) → andThen (text (drop at s)) f ≡ seenRow s (withText (textAt s at) NoRow g)
+  after-text : (at : ℕ) (f : Option (List ℕ) × List ℕ → Option (Row × List ℕ)) (g : Text → ℕ → RowAt)
+      → ((t : Text) (p : ℕ) → f (textOf s t, drop p s) ≡ seenRow s (g t p)) → andThen (text (drop at s)) f ≡ seenRow s (withText (textAt s at) NoRow g)
   after-text at f g h = rw (text-seen s at) (go (textAt s at))
     where
       go : (r : TextAt) → andThen (seenText s r) f ≡ seenRow s (withText r NoRow g)
@@ -107,14 +108,14 @@ seenEnd s starts (some e) = some (map (rowSeen s) starts, drop e s)
 
 -- one row in front of the others
 front : (s : List ℕ) (at : ℕ) (f : Fields) (next : ℕ) (starts : List ℕ) (o : Option ℕ) → rowAt s at ≡ RowTo f next
-    → andThen (seenEnd s starts o) (λ rs s₂. some (rowOf s f ∷ rs, s₂)) ≡ seenEnd s (at ∷ starts) o
+    → andThen (seenEnd s starts o) (λ (rs, s₂). some (rowOf s f ∷ rs, s₂)) ≡ seenEnd s (at ∷ starts) o
 front s at f next starts none e = refl
 front s at f next starts (some end) e = rw e
 
 -- the others, by what is known of n rows from any place
 others : (n : ℕ) (s : List ℕ) (at : ℕ) (r : RowAt) → rowAt s at ≡ r
     → ((next : ℕ) → rows n (drop next s) ≡ seenEnd s (placesFrom n s next) (endAfter n s next))
-    → andThen (seenRow s r) (λ x s₁. andThen (rows n s₁) (λ rs s₂. some (x ∷ rs, s₂)))
+    → andThen (seenRow s r) (λ (x, s₁). andThen (rows n s₁) (λ (rs, s₂). some (x ∷ rs, s₂)))
     ≡ seenEnd s (at ∷ withRow r [] (λ f next. placesFrom n s next)) (withRow r none (λ f next. endAfter n s next))
 others n s at NoRow e h = refl
 others n s at (RowTo f next) e h = rw (h next) (front s at f next (placesFrom n s next) (endAfter n s next) e)
@@ -156,11 +157,11 @@ whole-seen s rs e h =
     (λ q. rw (q, drop-cons s e 0 (omega (arith, eqb-false e (length s) q))))
 
 rows-whole : (n : ℕ) (s : List ℕ) (at : ℕ) → at ≤ length s
-    → andThen (rows n (drop at s)) whole ≡ pick (rowsEnd n s at) (some (map (rowSeen s) (placesFrom n s at))) none
+    → andThen (rows n (drop at s)) (λ (rs, s₂). whole rs s₂) ≡ pick (rowsEnd n s at) (some (map (rowSeen s) (placesFrom n s at))) none
 rows-whole n s at h = rw (rows-seen n s at, rows-end n s at) (go (endAfter n s at) refl)
   where
     go : (o : Option ℕ) → endAfter n s at ≡ o
-        → andThen (seenEnd s (placesFrom n s at) o) whole ≡ pick (endsAt s o) (some (map (rowSeen s) (placesFrom n s at))) none
+        → andThen (seenEnd s (placesFrom n s at) o) (λ (rs, s₂). whole rs s₂) ≡ pick (endsAt s o) (some (map (rowSeen s) (placesFrom n s at))) none
     go none e = refl
     go (some end) e = whole-seen s (map (rowSeen s) (placesFrom n s at)) end (end-inside n s at end h e)
 
@@ -176,7 +177,7 @@ catalogue-agrees s =
     (λ q. rw q)
   where
     go : (r : Reading) → readingAt rowsMost s 0 ≡ r
-        → andThen (seenNumber s r) (λ n s₁. andThen (rows n s₁) whole)
+        → andThen (seenNumber s r) (λ (n, s₁). andThen (rows n s₁) (λ (rs, s₂). whole rs s₂))
         ≡ pick
         (eqb (withNumber r malformed (λ n at. counted n (rowsEnd n s at)) .refusal) 0)
         (some (map (rowSeen s) (withNumber r [] (λ n at. placesFrom n s at))))

@@ -14,12 +14,12 @@ use lib.Seq.{take-at, drop-at, getD-append-add, length-take-le}
 use Rattle.lists.specs.Below.{both}
 use Rattle.wire.specs.Word.{Bytes, halves, le}
 use Rattle.wire.proofs.Halves.{halves-length}
-use Rattle.lists.proofs.Options.{none≢some, some-is, pair-is}
+use Rattle.lists.proofs.Options.{none≢some, some-is, pair-is, then-inv}
 use Rattle.lists.proofs.Below.{by-test, both-left, both-right, every-at, every-shown}
 use Rattle.catalogue.specs.Groups.{number, written}
 use Rattle.catalogue.proofs.NumberRoundTrip.{number-written, number-read}
 use Rattle.catalogue.specs.Limits.{rowsMost, keyMost, numberMost, sizeMost, bytesMost}
-use Rattle.catalogue.specs.Plain.{Row, andThen, noneZero, textAfter, text, row, rows, whole, catalogue}
+use Rattle.catalogue.specs.Plain.{Row, noneZero, textAfter, text, row, rows, whole, catalogue}
 use Rattle.catalogue.specs.Writer.{unitBytes, writeText, writeRow, writeRows, write, TextFits, RowFits, RowsFit, Fits}
 
 -- a list after another is of bytes where the joined one is
@@ -82,11 +82,6 @@ text-written (some units) rest fits =
       le-leb (2 * length units) (length (unitBytes units ++ rest)) (omega (arith, length-append (unitBytes units) rest, unit-bytes-length units)),
     )
 
-and-then-inv : {A B : Type 0} (o : Option (A × List ℕ)) (f : A → List ℕ → Option B) (b : B) → andThen o f ≡ some b
-    → (r : A × List ℕ) × (o ≡ some r) × (f (r .0) (r .1) ≡ some b)
-and-then-inv none f b e = absurd (none≢some e)
-and-then-inv (some r) f b e = (r, refl, e)
-
 bytes-take : (n : ℕ) (s : List ℕ) → Bytes s → Bytes (take n s)
 bytes-take zero s bytes i = omega arith
 bytes-take (suc n) [] bytes i = omega arith
@@ -119,7 +114,7 @@ units-back n s h bytes l clear = (
 text-back : (s : List ℕ) (t : Option (List ℕ)) (rest : List ℕ) → Bytes s → text s ≡ some (t, rest) → (s ≡ writeText t ++ rest) × TextFits t
 unfolding text
 text-back s t rest bytes e =
-    let i = and-then-inv (number sizeMost s) textAfter (t, rest) e in
+    let i = then-inv (number sizeMost s) _ (t, rest) e in
     let r = number-read sizeMost s (i .0 .0) (i .0 .1) (omega arith) bytes (i .1) in
     go (i .0 .0) (i .0 .1) (r .0) (r .1) (i .2)
   where
@@ -173,11 +168,11 @@ fields-back k l d a b s s₁ s₂ s₃ s₄ s₅ bytes e₁ e₂ e₃ e₄ e₅ 
 row-back : (s : List ℕ) (r : Row) (rest : List ℕ) → Bytes s → row s ≡ some (r, rest) → (s ≡ writeRow r ++ rest) × RowFits r
 unfolding row
 row-back s r rest bytes e =
-    let k = and-then-inv (number keyMost s) _ (r, rest) e in
-    let l = and-then-inv (number numberMost (k .0 .1)) _ (r, rest) (k .2) in
-    let d = and-then-inv (number numberMost (l .0 .1)) _ (r, rest) (l .2) in
-    let a = and-then-inv (text (d .0 .1)) _ (r, rest) (d .2) in
-    let b = and-then-inv (text (a .0 .1)) _ (r, rest) (a .2) in
+    let k = then-inv (number keyMost s) _ (r, rest) e in
+    let l = then-inv (number numberMost (k .0 .1)) _ (r, rest) (k .2) in
+    let d = then-inv (number numberMost (l .0 .1)) _ (r, rest) (l .2) in
+    let a = then-inv (text (d .0 .1)) _ (r, rest) (d .2) in
+    let b = then-inv (text (a .0 .1)) _ (r, rest) (a .2) in
     told (k .0 .0) (l .0 .0) (d .0 .0) (a .0 .0) (b .0 .0) (b .0 .1) (b .2)
     (fields-back (k .0 .0) (l .0 .0) (d .0 .0) (a .0 .0) (b .0 .0) s (k .0 .1) (l .0 .1) (d .0 .1) (a .0 .1) (b .0 .1) bytes (k .1) (l .1) (d .1) (a .1) (b .1))
   where
@@ -200,8 +195,8 @@ rows-back : (n : ℕ) (s : List ℕ) (rs : List Row) (rest : List ℕ) → Bytes
 unfolding rows writeRows RowsFit
 rows-back zero s rs rest bytes e = subst (λ (p : List Row × List ℕ). (s ≡ writeRows (p .0) ++ p .1) × RowsFit (p .0) × (length (p .0) ≡ 0)) (some-is e) (refl, tt, refl)
 rows-back (suc n) s rs rest bytes e =
-    let f = and-then-inv (row s) _ (rs, rest) e in
-    let g = and-then-inv (rows n (f .0 .1)) _ (rs, rest) (f .2) in
+    let f = then-inv (row s) _ (rs, rest) e in
+    let g = then-inv (rows n (f .0 .1)) _ (rs, rest) (f .2) in
     let r' = row-back s (f .0 .0) (f .0 .1) bytes (f .1) in
     let rs' = rows-back n (f .0 .1) (g .0 .0) (g .0 .1) (bytes-after s (writeRow (f .0 .0)) (f .0 .1) (r' .0) bytes) (g .1) in
     told (f .0 .0) (f .0 .1) (g .0 .0) (g .0 .1) r' rs' (g .2)
@@ -235,8 +230,8 @@ unfolding catalogue
 written-parses s rs bytes e =
     by-test (leb (length s) bytesMost)
     (λ q.
-    let n = and-then-inv (number rowsMost s) _ rs (rw q at e) in
-    let m = and-then-inv (rows (n .0 .0) (n .0 .1)) whole rs (n .2) in
+    let n = then-inv (number rowsMost s) _ rs (rw q at e) in
+    let m = then-inv (rows (n .0 .0) (n .0 .1)) _ rs (n .2) in
     go q (n .0 .0) (n .0 .1) (m .0 .0) (m .0 .1) (n .1) (m .1) (m .2))
     (λ q. absurd (none≢some (rw q at e)))
   where

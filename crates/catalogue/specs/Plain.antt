@@ -7,6 +7,7 @@ use Prim.Native.Nat.{ℕ, zero, suc, _*_}
 use lib.Dec.{leb, eqb}
 use lib.ListN.{length, getD, take, drop}
 use Rattle.lists.specs.Below.{pick, both, everyBelow}
+use Rattle.lists.specs.Options.{andThen}
 use Rattle.wire.specs.Word.{halves}
 use Rattle.catalogue.specs.Groups.{number}
 use Rattle.catalogue.specs.Limits.{rowsMost, keyMost, numberMost, sizeMost, bytesMost}
@@ -19,11 +20,6 @@ pub record Row : Type 0 where
   pub label : Option (List ℕ)
   pub note : Option (List ℕ)
 
--- what was read is handed on with the bytes after it; nothing stays nothing
-abbrev pub andThen : {A B : Type 0} → Option (A × List ℕ) → (A → List ℕ → Option B) → Option B
-andThen none f = none
-andThen (some r) f = f (r .0) (r .1)
-
 -- "none of them zero"
 abbrev pub noneZero : List ℕ → Bool
 noneZero units = everyBelow (length units) (λ i. not (eqb (getD units i 0) 0))
@@ -35,22 +31,22 @@ textAfter (suc n) s =
     pick (both (leb (2 * n) (length s)) (noneZero (halves (take (2 * n) s)))) (some (some (halves (take (2 * n) s)), drop (2 * n) s)) none
 
 unfoldable pub text : List ℕ → Option (Option (List ℕ) × List ℕ)
-text s = andThen (number sizeMost s) textAfter
+text s = andThen (number sizeMost s) λ (size, s₁). textAfter size s₁
 
 -- a row: its key, language, default, label and note, one after the other
 unfoldable pub row : List ℕ → Option (Row × List ℕ)
 row s =
-    andThen (number keyMost s) λ key s₁.
-    andThen (number numberMost s₁) λ language s₂.
-    andThen (number numberMost s₂) λ default s₃.
-    andThen (text s₃) λ label s₄.
-    andThen (text s₄) λ note s₅.
+    andThen (number keyMost s) λ (key, s₁).
+    andThen (number numberMost s₁) λ (language, s₂).
+    andThen (number numberMost s₂) λ (default, s₃).
+    andThen (text s₃) λ (label, s₄).
+    andThen (text s₄) λ (note, s₅).
     some (record { key = key; language = language; default = default; label = label; note = note }, s₅)
 
 -- that many rows, one after the other
 unfoldable pub rows : ℕ → List ℕ → Option (List Row × List ℕ)
 rows zero s = some ([], s)
-rows (suc n) s = andThen (row s) λ r s₁. andThen (rows n s₁) λ rs s₂. some (r ∷ rs, s₂)
+rows (suc n) s = andThen (row s) λ (r, s₁). andThen (rows n s₁) λ (rs, s₂). some (r ∷ rs, s₂)
 
 -- "No bytes may follow"
 abbrev pub whole : List Row → List ℕ → Option (List Row)
@@ -59,7 +55,7 @@ whole rs (b ∷ s) = none
 
 -- "It holds the row count (0 to 1,024), then .. each row"; "At most 1,048,576 bytes"
 unfoldable pub catalogue : List ℕ → Option (List Row)
-catalogue s = pick (leb (length s) bytesMost) (andThen (number rowsMost s) λ n s₁. andThen (rows n s₁) whole) none
+catalogue s = pick (leb (length s) bytesMost) (andThen (number rowsMost s) λ (n, s₁). andThen (rows n s₁) λ (rs, s₂). whole rs s₂) none
 
 -- "The first returns 3 or 0": refusal 3 where the catalogue is malformed
 abbrev pub refusalOf : Option (List Row) → ℕ

@@ -16,10 +16,11 @@ use Rattle.catalogue.specs.Plain.{Row, catalogue, rowsOf}
 use Rattle.catalogue.specs.Places.{RowThere, rowSeen}
 use Rattle.lists.specs.Every.{every}
 use Rattle.bindings.specs.Fit.{rowMost, fit}
-use Rattle.table.specs.Layout.{cursorSize, rowsSize, recordsAt, recordsSize, part}
+use Rattle.table.specs.Layout.{cursorSize, rowsSize, recordsAt, recordsSize}
+use Rattle.lists.specs.Parts.{part}
 use Rattle.table.specs.Seat.{cursorHeld}
 use Rattle.table.proofs.Seats.{cursor-block}
-use Rattle.table.proofs.Tables.{part-length}
+use Rattle.lists.proofs.Parts.{part-length}
 use Rattle.bindings.proofs.Sound.{fit-sound}
 use Rattle.refusal.specs.Refusal.{firstCause}
 use Rattle.fetch.specs.declared.Request.{Request}

@@ -10,7 +10,8 @@ use lib.ListN.{length, getD}
 use Rattle.lists.proofs.Below.{by-test}
 use Rattle.catalogue.specs.Plain.{Row}
 use Rattle.bindings.proofs.Columns.{from-length}
-use Rattle.table.specs.Layout.{recordsAt, recordsSize, part}
+use Rattle.table.specs.Layout.{recordsAt, recordsSize}
+use Rattle.lists.specs.Parts.{part}
 use Rattle.table.specs.Seat.{Cursor, cursorHeld}
 use Rattle.refusal.specs.Refusal.{firstCause}
 use Rattle.fetch.specs.declared.Request.{Request}

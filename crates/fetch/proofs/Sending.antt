@@ -6,7 +6,8 @@ use native.Mathlib.Omega.{arith}
 use lib.ListN.{length, getD, take, drop, length-take, length-drop, length-map}
 use Rattle.catalogue.specs.Plain.{Row, catalogue, rowsOf}
 use Rattle.catalogue.specs.Places.{rowSeen}
-use Rattle.table.specs.Layout.{recordsAt, recordsSize, part}
+use Rattle.table.specs.Layout.{recordsAt, recordsSize}
+use Rattle.lists.specs.Parts.{part}
 use Rattle.table.specs.Seat.{Cursor, cursorHeld}
 use Rattle.refusal.specs.Refusal.{firstCause}
 use Rattle.fetch.specs.Request.{Sound}

@@ -7,7 +7,8 @@ use Prim.Native.Nat.{ℕ, _+_, _/_, _%_, _≤_}
 use lib.ListN.{length, take, drop, set}
 use Rattle.wire.specs.Laid.{lay}
 use Rattle.line.specs.Digits.{hexBytes}
-use Rattle.line.specs.Line.{catalogueMost, between}
+use Rattle.line.specs.Line.{catalogueMost}
+use Rattle.lists.specs.Parts.{between}
 use Rattle.line.specs.declared.Call.{Call}
 use Rattle.line.specs.declared.Call.the-variants as call
 use Rattle.line.specs.Text.{Put}

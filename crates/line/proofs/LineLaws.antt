@@ -8,7 +8,8 @@ use native.Mathlib.Omega.{arith}
 use borrow.Author.Tests.{eq-eqb, ne-eqb, lt-ltb, le-ltb}
 use Rattle.line.specs.Runs.{wordStart, wordEnd}
 use Rattle.line.specs.Digits.{decimal, told, isDash, isHex}
-use Rattle.line.specs.Line.{between, numbered, numberIn, numberWord, hexIn, hexWord, named, callIn, callOf}
+use Rattle.line.specs.Line.{numbered, numberIn, numberWord, hexIn, hexWord, named, callIn, callOf}
+use Rattle.lists.specs.Parts.{between}
 use Rattle.line.specs.declared.Spelled.the-variants as spelled
 use Rattle.line.specs.declared.Reason.the-variants.{MissingWord, BadNumber, BadHex, TooLong}
 use Rattle.line.specs.declared.Number.the-variants as number

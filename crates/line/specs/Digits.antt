@@ -1,11 +1,10 @@
 -- Numbers and bytes of a calls file (README, "Replaying recorded calls").
-use mathlib.Core.Bool.{Bool, true, false}
+use mathlib.Core.Bool.{Bool, true, false, not}
 use mathlib.Core.List.{List, [], _∷_}
 use mathlib.Core.Option.{Option, none, some}
 use Prim.Native.Nat.{ℕ, _+_, _-_, _*_, _%_}
 use lib.Dec.{eqb, leb, ltb}
 use Rattle.lists.specs.Below.{pick, both}
-use Rattle.line.specs.Runs.{opposite}
 use Rattle.line.specs.declared.Spelled.{Spelled}
 use Rattle.line.specs.declared.Spelled.the-variants.{Is, Bad}
 
@@ -43,7 +42,7 @@ isDash (b ∷ []) = eqb b 45
 isDash (b ∷ c ∷ s) = false
 
 abbrev pub isHexDigit : ℕ → Bool
-isHexDigit b = opposite (eqb (hexDigit b) 16)
+isHexDigit b = not (eqb (hexDigit b) 16)
 
 -- "HEX is pairs of hex digits of either case"
 unfoldable pub isHex : List ℕ → Bool

@@ -4,7 +4,7 @@ use mathlib.Core.List.{List, [], _∷_}
 use mathlib.Core.Option.{Option, none, some}
 use Prim.Native.Nat.{ℕ, _-_, _/_, _≤_}
 use lib.Dec.{eqb, ltb}
-use lib.ListN.{length, take, drop}
+use lib.ListN.{length}
 use Rattle.lists.specs.Below.{pick}
 use Rattle.line.specs.Runs.{wordStart, wordEnd, sameBytes}
 use Rattle.line.specs.Digits.{decimal, isDash, isHex}
@@ -15,10 +15,7 @@ use Rattle.line.specs.declared.Hex.{Hex}
 use Rattle.line.specs.declared.Hex.the-variants as hex
 use Rattle.line.specs.declared.Call.{Call}
 use Rattle.line.specs.declared.Call.the-variants as call
-
--- the bytes of a list from a place to another
-abbrev pub between : ℕ → ℕ → List ℕ → List ℕ
-between a e s = take (e - a) (drop a s)
+use Rattle.lists.specs.Parts.{between}
 
 -- "a catalogue over 32,768 bytes, a tree or message over 20,000, ROOM over 20,000"; "INDEX above 17,199"
 abbrev pub catalogueMost : ℕ

@@ -1,5 +1,5 @@
 -- Lines, words and comments of a calls file (README, "Replaying recorded calls").
-use mathlib.Core.Bool.{Bool, true, false}
+use mathlib.Core.Bool.{Bool, true, false, not}
 use mathlib.Core.List.{List, [], _∷_}
 use Prim.Native.Nat.{ℕ, suc, _+_}
 use lib.Dec.{eqb}
@@ -11,24 +11,20 @@ unfoldable pub run : (ℕ → Bool) → List ℕ → ℕ
 run kind [] = 0
 run kind (b ∷ s) = pick (kind b) (suc (run kind s)) 0
 
-abbrev pub opposite : Bool → Bool
-opposite true = false
-opposite false = true
-
 -- "one call a line": all bytes up to a line feed
 abbrev pub inLine : ℕ → Bool
-inLine b = opposite (eqb b 10)
+inLine b = not (eqb b 10)
 
 -- "`#` starts a comment to the line's end": all bytes before it
 abbrev pub inCall : ℕ → Bool
-inCall b = opposite (eqb b 35)
+inCall b = not (eqb b 35)
 
 -- "Words stand apart by spaces, tabs or carriage returns"
 abbrev pub separates : ℕ → Bool
 separates b = either (eqb b 32) (either (eqb b 9) (eqb b 13))
 
 abbrev pub inWord : ℕ → Bool
-inWord b = opposite (separates b)
+inWord b = not (separates b)
 
 -- the first word from a place on begins at its first byte that is no separator, and ends before the next separator
 abbrev pub wordStart : List ℕ → ℕ → ℕ

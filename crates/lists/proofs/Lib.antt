@@ -3,3 +3,4 @@ pub mod Options
 pub mod Says
 pub mod Every
 pub mod Rising
+pub mod Parts

@@ -16,13 +16,15 @@ use Rattle.catalogue.specs.Plain.{Row}
 use Rattle.bindings.specs.Column.{wordsOf}
 use Rattle.bindings.specs.Fit.{fit}
 use Rattle.bindings.specs.declared.Column.{Column}
-use Rattle.bindings.specs.Bindings.{Bindings, columnsOn, withColumns, bindingsOn, handleAt, widthAt, describedAt, countAt, columnsAt}
+use Rattle.bindings.specs.Bindings.{Bindings, columnsOn, bindingsOn, handleAt, widthAt, describedAt, countAt, columnsAt}
+use Rattle.lists.specs.Options.{andThen}
 use Rattle.bindings.specs.Plain.{bindings}
 use Rattle.bindings.specs.Told.{answer, wordsRead, Told}
 use Rattle.bindings.specs.declared.BindingsRead.{BindingsRead}
 use Rattle.bindings.proofs.Agree.{bindings-agree}
 use Rattle.wire.specs.Laid.{lay, fourWords}
-use Rattle.table.specs.Layout.{cursorSize, cursorPlace, part, put}
+use Rattle.table.specs.Layout.{cursorSize, cursorPlace}
+use Rattle.lists.specs.Parts.{part, put}
 use Rattle.table.specs.Seat.{Cursor, Seat, cursorBlock, seatBlock, seatIn, seatOf, cursorIn, rebound}
 use Rattle.table.specs.Fits.{CursorOk}
 use Rattle.table.proofs.Seats.{cursor-block}
@@ -49,7 +51,7 @@ handle-is m x e =
     on = sym (bindings-agree m) ∙ e
 
     columns : (o : Option (List Column))
-        → withColumns o (λ s. some (record { handle = numberAt 4 m handleAt; width = numberAt 4 m widthAt; columns = s })) ≡ some x
+        → andThen o (λ s. some (record { handle = numberAt 4 m handleAt; width = numberAt 4 m widthAt; columns = s })) ≡ some x
         → x .handle ≡ handleOf m
     columns none w = absurd (none≢some w)
     columns (some s) w = sym (ap (λ (b : Bindings). b .handle) (some-is w))

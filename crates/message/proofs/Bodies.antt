@@ -13,8 +13,9 @@ use Rattle.lists.proofs.Below.{by-test}
 use Rattle.lists.proofs.Options.{some-is}
 use Rattle.catalogue.specs.Plain.{Row}
 use Rattle.wire.specs.Laid.{lay, fourWords}
-use Rattle.table.specs.Layout.{cursorSize, cursorPlace, put}
-use Rattle.table.specs.Seat.{Cursor, Seat, zeros, cursorBlock, seatBlock, seatIn, seatOf, cursorIn, withCursor}
+use Rattle.table.specs.Layout.{cursorSize, cursorPlace}
+use Rattle.lists.specs.Parts.{put, zeros}
+use Rattle.table.specs.Seat.{Cursor, Seat, cursorBlock, seatBlock, seatIn, seatOf, cursorIn, withCursor}
 use Rattle.table.specs.Fits.{CursorOk, SeatOk}
 use Rattle.table.proofs.Seats.{cursor-block, seat-block}
 use Rattle.table.proofs.Writes.{first-put, second-put}

@@ -11,12 +11,13 @@ use Rattle.lists.proofs.Below.{by-test, both-left, both-right}
 use Rattle.lists.proofs.Options.{none≢some, some-is}
 use Rattle.catalogue.specs.Plain.{catalogue, rowsOf}
 use Rattle.wire.specs.Laid.{lay, fourWords}
-use Rattle.table.specs.Layout.{cursorSize, cursorPlace, part, put}
+use Rattle.table.specs.Layout.{cursorSize, cursorPlace}
+use Rattle.lists.specs.Parts.{part, put}
 use Rattle.table.specs.Seat.{Cursor, Seat, cursorBlock, cursorHeld, seatIn, seatOf, cursorIn}
 use Rattle.table.specs.Well.{cursorBelow, seatBelow}
 use Rattle.table.specs.Fits.{CursorFits, CursorOk}
 use Rattle.table.proofs.Seats.{cursor-block}
-use Rattle.table.proofs.Judging.{part-is}
+use Rattle.lists.proofs.Parts.{part-is}
 use Rattle.fetch.specs.Request.{request}
 use Rattle.fetch.specs.declared.Request.{Request}
 use Rattle.fetch.proofs.Ranges.{request-sound, request-handle}

@@ -10,22 +10,17 @@ use lib.Dec.{leb, eqb}
 use lib.ListN.{length}
 use Rattle.lists.specs.Below.{pick}
 use Rattle.lists.proofs.Below.{by-test, both-true}
-use Rattle.lists.proofs.Options.{none≢some, some-is}
+use Rattle.lists.proofs.Options.{none≢some, some-is, then-inv}
 use Rattle.wire.specs.Checksum.{headerSize}
 use Rattle.lists.specs.Every.{every}
 use Rattle.bindings.specs.declared.Value.{Value}
 use Rattle.bindings.specs.declared.Spot.{Spot}
 use Rattle.bindings.specs.declared.Column.{Column}
-use Rattle.bindings.specs.Bindings.{Bindings, before, withColumns}
+use Rattle.bindings.specs.Bindings.{Bindings, before}
+use Rattle.lists.specs.Options.{andThen}
 use Rattle.bindings.specs.Wire.{typeWidth}
-use Rattle.bindings.specs.Plain.{Parsed, andThen, bytes, numeral, padding, flag, spot, value, property, column, columns, bindings}
+use Rattle.bindings.specs.Plain.{bytes, numeral, padding, flag, spot, value, property, column, columns, bindings}
 use Rattle.table.specs.Well.{flagged, tidy}
-
--- a parser after another gives something only where both do
-then-inv : {A B : Type 0} (o : Parsed A) (f : A → ℕ → List ℕ → Option B) (b : B) → andThen o f ≡ some b
-    → (r : A × ℕ × List ℕ) × (o ≡ some r) × (f (r .0) (r .1) (r .2) ≡ some b)
-then-inv none f b e = absurd (none≢some e)
-then-inv (some r) f b e = (r, refl, e)
 
 -- a flag that was read is 0 or 1
 flag-small : (at : ℕ) (s : List ℕ) (r : ℕ × ℕ × List ℕ) → flag at s ≡ some r → r .0 ≤ 1
@@ -54,7 +49,7 @@ spot-tidy at s r e =
   where
     go : (used at : ℕ) (s : List ℕ) → used ≤ 1
         → pick (eqb used 0) (some (record { used = 0; offset = 0 }, at, s))
-        (andThen (padding 2 at s) (λ _ at s. andThen (numeral 2 at s) (λ offset at s. some (record { used = used; offset = offset }, at, s))))
+        (andThen (padding 2 at s) (λ (_, at, s). andThen (numeral 2 at s) (λ (offset, at, s). some (record { used = used; offset = offset }, at, s))))
         ≡ some r
         → SpotTidy (r .0)
     go used at s h w =
@@ -73,7 +68,7 @@ value-tidy at s r e =
   where
     go : (p : Spot) (at : ℕ) (s : List ℕ) → p .used ≤ 1
         → pick (eqb (p .used) 0) (some (record { used = 0; offset = 0; size = 0 }, at, s))
-        (andThen (numeral 2 at s) (λ size at s. some (record { used = p .used; offset = p .offset; size = size }, at, s)))
+        (andThen (numeral 2 at s) (λ (size, at, s). some (record { used = p .used; offset = p .offset; size = size }, at, s)))
         ≡ some r
         → flagged (r .0 .used) (r .0 .offset + r .0 .size) ≡ true
     go p at s h w =
@@ -121,13 +116,13 @@ bindings-tidy m x e =
     described (c .0 .0) (w .0 .0) (eqb (d .0 .0) (length (u .0 .2))) (u .0 .1) (u .0 .2) (u .2)
   where
     listed : (handle width : ℕ) (count at : ℕ) (s : List ℕ) (o : Option (List Column)) → columns count at s ≡ o
-        → withColumns o (λ c. some (record { handle = handle; width = width; columns = c })) ≡ some x → every tidy (x .columns) ≡ true
+        → andThen o (λ c. some (record { handle = handle; width = width; columns = c })) ≡ some x → every tidy (x .columns) ≡ true
     listed handle width count at s none p w = absurd (none≢some w)
     listed handle width count at s (some found) p w =
         subst (λ (y : Bindings). every tidy (y .columns) ≡ true) (some-is w) (columns-tidy count at s found p)
 
     described : (handle width : ℕ) (right : Bool) (at : ℕ) (s : List ℕ)
-        → pick right (andThen (numeral 4 at s) (λ count at s. withColumns (columns count at s) (λ c. some (record { handle = handle; width = width; columns = c })))) none
+        → pick right (andThen (numeral 4 at s) (λ (count, at, s). andThen (columns count at s) (λ c. some (record { handle = handle; width = width; columns = c })))) none
         ≡ some x
         → every tidy (x .columns) ≡ true
     described handle width true at s w =

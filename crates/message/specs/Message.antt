@@ -14,7 +14,8 @@ use Rattle.bindings.specs.Fit.{fit}
 use Rattle.bindings.specs.Bindings.{Bindings}
 use Rattle.bindings.specs.Plain.{bindings}
 use Rattle.wire.specs.Laid.{fourWords}
-use Rattle.table.specs.Layout.{cursorSize, cursorPlace, columnsAt, widthAt, recordsAt, recordsSize, part, put}
+use Rattle.table.specs.Layout.{cursorSize, cursorPlace, columnsAt, widthAt, recordsAt, recordsSize}
+use Rattle.lists.specs.Parts.{part, put}
 use Rattle.table.specs.Seat.{Cursor, Seat, cursorIn, withCursor, rebound}
 use Rattle.refusal.specs.Refusal.{firstCause, statusOf}
 use Rattle.fetch.specs.Request.{request}

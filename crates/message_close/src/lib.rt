@@ -2,7 +2,8 @@
 ghost use mathlib.Core.Path.{_≡_};
 ghost use mathlib.Core.Option.{none};
 ghost use lib.ListN.{length};
-ghost use Rattle.table.specs.Layout.{seatSize, cursorSize, cursorPlace, put};
+ghost use Rattle.table.specs.Layout.{seatSize, cursorSize, cursorPlace};
+ghost use Rattle.lists.specs.Parts.{put};
 ghost use Rattle.table.specs.Seat.{cursorBlock};
 ghost use Rattle.message.specs.Answers.{Admitted, AnswersAny};
 use message::Answered;

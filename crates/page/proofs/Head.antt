@@ -11,7 +11,8 @@ use Rattle.catalogue.specs.Plain.{Row}
 use Rattle.bindings.specs.Fit.{fit}
 use Rattle.bindings.specs.declared.Column.{Column}
 use Rattle.lists.specs.Each.{Each}
-use Rattle.wire.specs.Laid.{part, fourWords}
+use Rattle.wire.specs.Laid.{fourWords}
+use Rattle.lists.specs.Parts.{part}
 use Rattle.page.specs.Field.{fieldOf, fieldAt, fieldSeen}
 use Rattle.page.specs.Stands.{FieldStands}
 use Rattle.catalogue.specs.Seen.{fieldsSeen}
@@ -36,7 +37,7 @@ held-seen s at property =
     (held-at s (fieldAt property (fieldsSeen s at)) (field-stands s property (fieldsSeen s at) (seen-stand s at)))
 
 -- four words in a row
-four-read : (u : List ℕ) (n at a b c d : ℕ) → a < 256 ^ 4 → b < 256 ^ 4 → c < 256 ^ 4 → d < 256 ^ 4 → part n at u ≡ fourWords a b c d
+four-read : (u : List ℕ) (n at a b c d : ℕ) → a < 256 ^ 4 → b < 256 ^ 4 → c < 256 ^ 4 → d < 256 ^ 4 → part u at n ≡ fourWords a b c d
     → (numberAt 4 u at ≡ a) × (numberAt 4 u (at + 4) ≡ b) × (numberAt 4 u (at + 4 + 4) ≡ c) × (numberAt 4 u (at + 4 + 4 + 4) ≡ d)
 four-read u n at a b c d ha hb hc hd e =
     let e₂ = other-words u n at a (le 4 b ++ (le 4 c ++ le 4 d)) e in

@@ -8,14 +8,14 @@ use lib.ListN.{length, getD, take, drop, take-append-drop}
 use lib.Seq.{take-at, drop-at, drop-drop, length-take-le}
 use Rattle.wire.specs.Word.{le, numberAt}
 use Rattle.catalogue.specs.Writer.{unitBytes}
-use Rattle.wire.specs.Laid.{part}
+use Rattle.lists.specs.Parts.{part}
 use Rattle.wire.proofs.Little.{le-length, read-number}
 use Rattle.page.specs.Cell.{blockOf}
 use Rattle.page.proofs.Units.{unit-bytes-length}
 use Rattle.page.specs.Reads.{UnitsRead}
 
 -- a part of a part
-pub inner : (u : List ℕ) (at n : ℕ) (a b c : List ℕ) → part n at u ≡ a ++ (b ++ c) → part (length b) (at + length a) u ≡ b
+pub inner : (u : List ℕ) (at n : ℕ) (a b c : List ℕ) → part u at n ≡ a ++ (b ++ c) → part u (at + length a) (length b) ≡ b
 inner u at n a b c e =
     ap (take (length b)) (sym (drop-drop (length a) at u) ∙ ap (drop (length a)) all ∙ drop-at a (b ++ (c ++ rest)) (length a) refl)
     ∙ take-at b (c ++ rest) (length b) refl
@@ -31,19 +31,19 @@ inner u at n a b c e =
         ∙ ap (λ (l : List ℕ). a ++ l) (append-assoc b c rest)
 
 -- a number that is a part of a part
-pub inner-number : (u : List ℕ) (at n width v : ℕ) (a c : List ℕ) → v < 256 ^ width → part n at u ≡ a ++ (le width v ++ c)
+pub inner-number : (u : List ℕ) (at n width v : ℕ) (a c : List ℕ) → v < 256 ^ width → part u at n ≡ a ++ (le width v ++ c)
     → numberAt width u (at + length a) ≡ v
 inner-number u at n width v a c h e =
-    read-number u width (at + length a) v h (ap (λ (k : ℕ). part k (at + length a) u) (sym (le-length width v)) ∙ inner u at n a (le width v) c e)
+    read-number u width (at + length a) v h (ap (λ (k : ℕ). part u (at + length a) k) (sym (le-length width v)) ∙ inner u at n a (le width v) c e)
 
 -- words in a row: the first, and those after it
-module _ (u : List ℕ) (n at v : ℕ) (rest : List ℕ) (e : part n at u ≡ le 4 v ++ rest) where
+module _ (u : List ℕ) (n at v : ℕ) (rest : List ℕ) (e : part u at n ≡ le 4 v ++ rest) where
   pub first-word : v < 256 ^ 4 → numberAt 4 u at ≡ v
   first-word h = ap (numberAt 4 u) (sym (add-zero at)) ∙ inner-number u at n 4 v [] rest h e
 
-  pub other-words : part (length rest) (at + 4) u ≡ rest
+  pub other-words : part u (at + 4) (length rest) ≡ rest
   other-words =
-      ap (λ (k : ℕ). part (length rest) (at + k) u) (sym (le-length 4 v))
+      ap (λ (k : ℕ). part u (at + k) (length rest)) (sym (le-length 4 v))
       ∙ inner u at n (le 4 v) rest [] (e ∙ ap (λ (l : List ℕ). le 4 v ++ l) (sym (append-nil rest)))
 
 -- the bytes of the units before one, of that one, and of those after it
@@ -56,7 +56,7 @@ units-split (x ∷ units) (suc i) h =
     ap (λ (l : List ℕ). le 2 x ++ l) (units-split units i (le-of-suc-le-suc h))
     ∙ sym (append-assoc (le 2 x) (unitBytes (take i units)) (le 2 (getD units i 0) ++ unitBytes (drop (suc i) units)))
 
-pub units-read : (u : List ℕ) (n place : ℕ) (units : List ℕ) → part n place u ≡ blockOf units → UnitsRead u place units
+pub units-read : (u : List ℕ) (n place : ℕ) (units : List ℕ) → part u place n ≡ blockOf units → UnitsRead u place units
 unfolding le
 units-read u n place units e =
     record {

@@ -17,7 +17,8 @@ use Rattle.bindings.specs.Fit.{fit}
 use Rattle.bindings.specs.Sound.{column}
 use Rattle.bindings.specs.declared.Column.{Column}
 use Rattle.lists.specs.Each.{Each}
-use Rattle.wire.specs.Laid.{Laid, part}
+use Rattle.wire.specs.Laid.{Laid}
+use Rattle.lists.specs.Parts.{part}
 use Rattle.wire.proofs.Little.{le-length, read-number}
 use Rattle.page.specs.Field.{Field, number, text, absent, fieldOf}
 use Rattle.page.specs.Cell.{offsetWidth, lengthOf, kindOf, contentOf, variant, variantOf, cellOf, columnSpans}
@@ -31,9 +32,9 @@ use Rattle.page.proofs.Reply.{page-reads}
 
 -- a span is read back
 abbrev Back : List ℕ → Laid → Type 0
-Back u a = part (length (a .bytes)) (a .place) u ≡ a .bytes
+Back u a = part u (a .place) (length (a .bytes)) ≡ a .bytes
 
-one-byte : (u : List ℕ) (at v : ℕ) → part 1 at u ≡ v ∷ [] → getD u at 0 ≡ v
+one-byte : (u : List ℕ) (at v : ℕ) → part u at 1 ≡ v ∷ [] → getD u at 0 ≡ v
 one-byte u at v e =
     ap (λ (k : ℕ). getD u k 0) (sym (add-zero at))
     ∙ sym (getD-take 1 (drop at u) 0 0 (omega arith) ∙ getD-drop at u 0 0)
@@ -60,7 +61,7 @@ cell-is : (property type offset : ℕ) (f : Field) → type ≡ variantType
     → cellOf property type offset f ≡ variant (kindOf property f) 4 (contentOf offset f)
 cell-is property type offset f e = rw (eq-eqb type variantType e) (variant-is property offset f)
 
-module _ (u : List ℕ) (at n property type offset : ℕ) (f : Field) (is : type ≡ variantType) (e : part n at u ≡ cellOf property type offset f) where
+module _ (u : List ℕ) (at n property type offset : ℕ) (f : Field) (is : type ≡ variantType) (e : part u at n ≡ cellOf property type offset f) where
   cell-type : numberAt 2 u at ≡ kindOf property f
   cell-type =
       ap (numberAt 2 u) (sym (add-zero at))
@@ -77,15 +78,15 @@ module _ (u : List ℕ) (at n property type offset : ℕ) (f : Field) (is : type
       eight = omega (arith, length-append (le 2 (kindOf property f)) (replicate 6 0), le-length 2 (kindOf property f))
 
 -- a number in its cell, of either kind
-cell-value : (u : List ℕ) (at n property offset v : ℕ) (c : Column) → v < 256 ^ 4 → part n at u ≡ cellOf property (c .vtype) offset (number v) → n ≡ length (cellOf property (c .vtype) offset (number v))
+cell-value : (u : List ℕ) (at n property offset v : ℕ) (c : Column) → v < 256 ^ 4 → part u at n ≡ cellOf property (c .vtype) offset (number v) → n ≡ length (cellOf property (c .vtype) offset (number v))
     → numberAt 4 u (at + numberPlace c) ≡ v
 cell-value u at n property offset v c h e l =
     by-test (eqb (c .vtype) variantType)
     (λ q. rw q (cell-number u at n property (c .vtype) offset (number v) (eqb-true (c .vtype) variantType q) e h))
     (λ q.
     let m : n ≡ length (le 4 v) = rw q at l in
-    let k : part n at u ≡ le 4 v = rw q at e in
-    rw (q, add-zero at) (read-number u 4 at v h (ap (λ (i : ℕ). part i at u) (sym (m ∙ le-length 4 v)) ∙ k)))
+    let k : part u at n ≡ le 4 v = rw q at e in
+    rw (q, add-zero at) (read-number u 4 at v h (ap (λ (i : ℕ). part u at i) (sym (m ∙ le-length 4 v)) ∙ k)))
 
 module _ (size from width base status : ℕ) (columns : List Column) (rows : List Row) (fits : fit width columns ≡ true) (head : 32 ≤ from)
     (room : from + length rows * width + allBlocks columns rows ≤ size) (offset : base + size < 256 ^ offsetWidth) (t : List ℕ) (long : size ≤ length t) where
@@ -112,7 +113,7 @@ module _ (size from width base status : ℕ) (columns : List Column) (rows : Lis
         status = λ w. one-byte u (row + c .status .offset) _ (cells .status w);
         length = λ w.
             read-number u lengthSize (row + c .length .offset) (lengthOf (c .property) f) (length-held (c .property) f held)
-            (ap (λ (i : ℕ). part i (row + c .length .offset) u) (sym (le-length lengthSize (lengthOf (c .property) f))) ∙ cells .length w);
+            (ap (λ (i : ℕ). part u (row + c .length .offset) i) (sym (le-length lengthSize (lengthOf (c .property) f))) ∙ cells .length w);
         type = λ w v.
             cell-type u (row + c .value .offset) (length (cellOf (c .property) (c .vtype) (base + place) f)) (c .property) (c .vtype) (base + place) f v (cells .value w);
         value = λ w v e.
@@ -120,5 +121,5 @@ module _ (size from width base status : ℕ) (columns : List Column) (rows : Lis
         offset = λ w v units e.
             cell-number u (row + c .value .offset) (length (cellOf (c .property) (c .vtype) (base + place) (text units))) (c .property) (c .vtype) (base + place) (text units) v (rw e at (cells .value w)) (omega (arith, offset));
         block = λ w units e.
-            ap (λ (i : ℕ). part i place u) (sym (block-length units)) ∙ of-block (Back u) base row place c r all w units e;
+            ap (λ (i : ℕ). part u place i) (sym (block-length units)) ∙ of-block (Back u) base row place c r all w units e;
       }

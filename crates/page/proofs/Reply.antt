@@ -13,7 +13,8 @@ use Rattle.bindings.specs.Fit.{fit}
 use Rattle.bindings.specs.declared.Column.{Column}
 use Rattle.wire.specs.Word.{le}
 use Rattle.lists.specs.Each.{Each, Pairwise}
-use Rattle.wire.specs.Laid.{Laid, endOf, Inside, Clear, Outside, part, cleared, fourWords, header, lays}
+use Rattle.wire.specs.Laid.{Laid, endOf, Inside, Clear, Outside, cleared, fourWords, header, lays}
+use Rattle.lists.specs.Parts.{part}
 use Rattle.wire.proofs.Lays.{each-map, lays-length, lays-outside, lays-read, lays-front}
 use Rattle.page.specs.Rows.{allBlocks, rowsSpans}
 use Rattle.page.specs.Page.{rowsMessage, pageSpans, pageBytes, page}
@@ -97,10 +98,10 @@ module _ (size from width base status : ℕ) (columns : List Column) (rows : Lis
         (λ a h. omega (arith, cleared-length size t long)) page-inside
 
     -- each span is read back
-    pub page-reads : Each (λ a. part (length (a .bytes)) (a .place) (page size from width base status columns rows t) ≡ a .bytes) (pageSpans size from width base status columns rows)
+    pub page-reads : Each (λ a. part (page size from width base status columns rows t) (a .place) (length (a .bytes)) ≡ a .bytes) (pageSpans size from width base status columns rows)
     unfolding page
     page-reads =
-        each-by-index (λ a. part (length (a .bytes)) (a .place) (lays (cleared size t) (pageSpans size from width base status columns rows)) ≡ a .bytes)
+        each-by-index (λ a. part (lays (cleared size t) (pageSpans size from width base status columns rows)) (a .place) (length (a .bytes)) ≡ a .bytes)
         (record { place = 0; bytes = [] })
         (pageSpans size from width base status columns rows)
         (lays-read (cleared size t) (pageSpans size from width base status columns rows) (record { place = 0; bytes = [] }) in-buffer page-clear)

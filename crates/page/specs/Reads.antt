@@ -10,7 +10,7 @@ use Rattle.wire.specs.Word.{numberAt}
 use Rattle.catalogue.specs.Plain.{Row}
 use Rattle.wire.specs.Property.{variantType, numberSize, lengthSize}
 use Rattle.bindings.specs.declared.Column.{Column}
-use Rattle.wire.specs.Laid.{part}
+use Rattle.lists.specs.Parts.{part}
 use Rattle.page.specs.Field.{Field, number, text, absent}
 use Rattle.page.specs.Cell.{offsetWidth, textSize, statusOf, lengthOf, kindOf, blockOf}
 use Rattle.page.specs.Rows.{blocks, allBlocks}
@@ -47,7 +47,7 @@ pub record Reads (reply : List ℕ) (base row place : ℕ) (c : Column) (f : Fie
       → numberAt (numberSize (c .property)) reply (row + c .value .offset + numberPlace c) ≡ v
   pub offset : c .value .used ≡ 1 → c .vtype ≡ variantType → (units : List ℕ) → f ≡ text units
       → numberAt offsetWidth reply (row + c .value .offset + 8) ≡ base + place
-  pub block : c .value .used ≡ 1 → (units : List ℕ) → f ≡ text units → part (textSize units) place reply ≡ blockOf units
+  pub block : c .value .used ≡ 1 → (units : List ℕ) → f ≡ text units → part reply place (textSize units) ≡ blockOf units
 
 -- the eight words before the rows: the header, _cRowsReturned, eType, _chapt, skip
 pub record HeadReads (reply : List ℕ) (status rows : ℕ) : Type 0 where

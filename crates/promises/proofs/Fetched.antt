@@ -14,7 +14,8 @@ use Rattle.catalogue.specs.Plain.{Row, catalogue, rowsOf}
 use Rattle.bindings.specs.Fit.{fit}
 use Rattle.table.specs.Layout.{seats}
 use Rattle.table.specs.Seat.{Cursor, Seat, cursorIn}
-use Rattle.table.specs.Fits.{Rising, CursorFits, CursorOk, SeatOk}
+use Rattle.table.specs.Fits.{CursorFits, CursorOk, SeatOk}
+use Rattle.lists.specs.Rising.{Rises}
 use Rattle.refusal.specs.Refusal.{firstCause}
 use Rattle.fetch.specs.Request.{request, Sound}
 use Rattle.fetch.specs.declared.Request.{Request}
@@ -147,7 +148,7 @@ carries s rows e calls seat m room z g =
 -- a cursor that is told has carried no more rows than its selection has, and no row stands in its selection twice
 pub told-fits : (s : List ℕ) (calls : List Call) (seat handle : ℕ) → seat < seats → Handle handle → (c : Cursor)
     → cursorTold (sourcesOf s) seat handle none (history (sourcesOf s) freshTable calls) ≡ some c
-    → (c .position ≤ length (c .selection)) × Rising (c .selection)
+    → (c .position ≤ length (c .selection)) × Rises (c .selection)
 told-fits s calls seat handle h n c e =
     let t = after (sourcesOf s) freshTable calls in
     let f : CursorFits c

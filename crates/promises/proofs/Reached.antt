@@ -11,7 +11,8 @@ use lib.ListN.{length, take, replicate, length-replicate, replicate-append-repli
 use lib.Seq.{take-at, drop-at}
 use Rattle.lists.proofs.Below.{true≢false, both-true, every-shown}
 use Rattle.catalogue.specs.Plain.{Row, catalogue}
-use Rattle.table.specs.Layout.{seats, seatSize, seatAt, tableSize, part, blockOf}
+use Rattle.table.specs.Layout.{seats, seatSize, seatAt, tableSize, blockOf}
+use Rattle.lists.specs.Parts.{part}
 use Rattle.table.specs.Seat.{seatBlock, seatOf}
 use Rattle.table.specs.Well.{seatWell, tableWell, seatBelow, tableBelow}
 use Rattle.table.proofs.Seats.{seat-block}

@@ -3,8 +3,7 @@ use mathlib.Core.Path.{_≡_, refl, sym, ap, ap₂, _∙_}
 use mathlib.Core.Bool.{true, false}
 use mathlib.Core.List.{List, _++_, map}
 use mathlib.Core.Option.{Option, none, some}
-use Prim.Native.Nat.{ℕ, zero, suc, _-_, _≤_}
-use native.Mathlib.Nat.{sub-zero}
+use Prim.Native.Nat.{ℕ, _-_, _≤_}
 use native.Mathlib.Omega.{arith}
 use borrow.Author.Tests.{eq-eqb, ne-eqb}
 use lib.Dec.{eqb}
@@ -22,14 +21,16 @@ use Rattle.tree.specs.Select.{selectedBy, selected}
 use Rattle.tree.specs.Noted.{Noted}
 use Rattle.tree.proofs.Selection.{numbers-few}
 use Rattle.tree.proofs.SelectLaws as Laws
-use Rattle.table.specs.Layout.{cursorSize, rowsSize, put}
-use Rattle.table.specs.Seat.{Seat, zeros, cursorBlock, seatIn, seatOf, opened}
+use Rattle.table.specs.Layout.{cursorSize, rowsSize}
+use Rattle.lists.specs.Parts.{put, zeros}
+use Rattle.table.specs.Seat.{Seat, cursorBlock, seatIn, seatOf, opened}
 use Rattle.table.proofs.Tables.{put-length}
 use Rattle.table.proofs.Writes.{opened-block}
 use Rattle.refusal.specs.Refusal.{firstCause}
 use Rattle.table.specs.Open.{isOpen}
 use Rattle.query.specs.Open.{freeHandle, openCauses}
 use Rattle.query.specs.Answer.{handleFor, Judged}
+use Rattle.lists.proofs.Parts.{drop-zeros}
 
 -- the lowest free handle
 pub free-first : (s : Seat) → isOpen (s .first) ≡ false → freeHandle s ≡ 1
@@ -106,17 +107,6 @@ selected-few tree s rows noted n = go (restriction tree) (catalogue s) refl
     go (some t) none e = omega arith
     go (some t) (some found) e =
         omega (arith, numbers-few 0 (holds t) found, rows-most s rows noted found n e, Laws.few s rows noted n)
-
-drop-zeros : (k n : ℕ) → drop k (zeros n) ≡ zeros (n - k)
-drop-zeros zero n = ap zeros (sym (sub-zero n))
-drop-zeros (suc k) zero = ap zeros none-left
-  where
-    none-left : 0 ≡ 0 - suc k
-    none-left = omega arith
-drop-zeros (suc k) (suc n) = drop-zeros k n ∙ ap zeros less
-  where
-    less : n - k ≡ suc n - suc k
-    less = omega arith
 
 pub closed-length : (b : List ℕ) → b ≡ cursorBlock none → length b ≡ cursorSize
 closed-length b e = ap length e ∙ length-replicate {A = ℕ} cursorSize 0

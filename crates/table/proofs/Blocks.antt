@@ -19,11 +19,14 @@ use Rattle.bindings.specs.Column.{columnAt, columnsFrom, columnsOf, recordOf, r
 use Rattle.lists.specs.Every.{every}
 use Rattle.bindings.specs.Fit.{fit}
 use Rattle.bindings.proofs.Columns.{from-length}
-use Rattle.table.specs.Layout.{cursorSize, openAt, positionAt, countAt, columnsAt, widthAt, recordsAt, recordsSize, rowsAt, rowsSize, part}
-use Rattle.table.specs.Seat.{zeros, cursorBlock, cursorHeld, cursorOf}
+use Rattle.table.specs.Layout.{cursorSize, openAt, positionAt, countAt, columnsAt, widthAt, recordsAt, recordsSize, rowsAt, rowsSize}
+use Rattle.lists.specs.Parts.{part, zeros}
+use Rattle.table.specs.Seat.{cursorBlock, cursorHeld, cursorOf}
 use Rattle.table.specs.Well.{allZero, rising, tidy, boundWell, bindingsWell, selectionWell, openWell, cursorWell}
-use Rattle.table.specs.Fits.{Rising, CursorFits, CursorOk}
+use Rattle.table.specs.Fits.{CursorFits, CursorOk}
+use Rattle.lists.specs.Rising.{Rises}
 use Rattle.table.proofs.Judging.{fit-count}
+use Rattle.lists.proofs.Parts.{take-zeros}
 
 -- words that are all zero are so many zeros
 pub zero-is : (words : List ℕ) → allZero words ≡ true → words ≡ zeros (length words)
@@ -37,16 +40,11 @@ zeros-are n =
     (λ i h. eq-eqb (getD (zeros n) i 0) 0 (getD-replicate n i 0 0 (omega (arith, length-replicate {A = ℕ} n 0, h))))
 
 -- rows that rise, as a test and as a fact
-rises : (rows : List ℕ) → rising rows ≡ true → Rising rows
+rises : (rows : List ℕ) → rising rows ≡ true → Rises rows
 rises rows e i h = ltb-true (getD rows i 0) (getD rows (i + 1) 0) (every-at (length rows - 1) _ e i (omega arith))
 
-pub rising-shown : (rows : List ℕ) → Rising rows → rising rows ≡ true
+pub rising-shown : (rows : List ℕ) → Rises rows → rising rows ≡ true
 rising-shown rows r = every-shown (length rows - 1) _ (λ i h. lt-ltb (getD rows i 0) (getD rows (i + 1) 0) (r i (omega (arith, h))))
-
-pub take-zeros : (m n : ℕ) → m ≤ n → take m (zeros n) ≡ zeros m
-take-zeros zero n h = refl
-take-zeros (suc m) zero h = absurd (omega arith)
-take-zeros (suc m) (suc n) h = ap (λ (r : List ℕ). 0 ∷ r) (take-zeros m n (omega arith))
 
 -- a list from a place on, word by word
 step : (words : List ℕ) (a i : ℕ) → a + i < length words → drop (a + i) words ≡ getD words (a + i) 0 ∷ drop (a + (i + 1)) words

@@ -13,14 +13,16 @@ use Rattle.lists.specs.Below.{both}
 use Rattle.lists.proofs.Below.{by-test, true≢false, both-true, both-left, both-right}
 use Rattle.lists.specs.Every.{every}
 use Rattle.lists.proofs.Every.{every-index}
-use Rattle.table.specs.Layout.{cursorSize, connectedAt, firstAt, secondAt, openAt, positionAt, countAt, rowsAt, rowsSize, part}
+use Rattle.table.specs.Layout.{cursorSize, connectedAt, firstAt, secondAt, openAt, positionAt, countAt, rowsAt, rowsSize}
+use Rattle.lists.specs.Parts.{part}
 use Rattle.table.specs.Seat.{cursorHeld, cursorOf, seatOf}
 use Rattle.table.specs.Well.{openWell, cursorWell, seatWell, cursorBelow, seatBelow}
-use Rattle.table.specs.Fits.{Rising, CursorFits}
+use Rattle.table.specs.Fits.{CursorFits}
+use Rattle.lists.specs.Rising.{Rises}
 use Rattle.table.proofs.Blocks.{cursor-back}
 
 -- the last of rising numbers is the greatest
-greatest : (rows : List ℕ) → Rising rows → (left i : ℕ) → i + left + 1 ≡ length rows → getD rows i 0 ≤ getD rows (length rows - 1) 0
+greatest : (rows : List ℕ) → Rises rows → (left i : ℕ) → i + left + 1 ≡ length rows → getD rows i 0 ≤ getD rows (length rows - 1) 0
 greatest rows r zero i e = rw same (omega arith)
   where
     same : length rows - 1 ≡ i
@@ -32,7 +34,7 @@ unfolding every
 every-shown test [] d f = refl
 every-shown test (a ∷ l) d f = both-true (test a) (every test l) (f 0 (omega arith)) (every-shown test l d (λ k h. f (suc k) (omega arith)))
 
-pub last-decides : (bound : ℕ) (rows : List ℕ) → Rising rows → 0 < length rows
+pub last-decides : (bound : ℕ) (rows : List ℕ) → Rises rows → 0 < length rows
     → every (λ row. ltb row bound) rows ≡ ltb (getD rows (length rows - 1) 0) bound
 last-decides bound rows r h =
     by-test (ltb (getD rows (length rows - 1) 0) bound)

@@ -11,7 +11,8 @@ use lib.Dec.{eqb}
 use lib.ListN.{getD, drop}
 use lib.Seq.{getD-take, getD-drop}
 use Rattle.lists.proofs.Below.{by-test}
-use Rattle.table.specs.Layout.{seatSize, cursorSize, firstAt, secondAt, cursorPlace, part, put}
+use Rattle.table.specs.Layout.{seatSize, cursorSize, firstAt, secondAt, cursorPlace}
+use Rattle.lists.specs.Parts.{part, put}
 use Rattle.table.specs.Seat.{Cursor, Seat, cursorOf, cursorIn, seatIn}
 use Rattle.table.specs.Open.{isOpen, openCount, stillOpen}
 

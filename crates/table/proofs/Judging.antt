@@ -1,16 +1,14 @@
 -- Laws that the judgement of a table uses. Assumes nothing.
-use mathlib.Core.Path.{_≡_, ap}
+use mathlib.Core.Path.{_≡_}
 use mathlib.Core.Bool.{Bool, true, false}
 use mathlib.Core.List.{List}
-use Prim.Native.Nat.{ℕ, _+_, _-_, _≤_}
+use Prim.Native.Nat.{ℕ, _≤_}
 use native.Mathlib.Omega.{arith}
 use borrow.Author.Tests.{eq-eqb, ne-eqb}
-use lib.ListN.{take, drop}
 use Rattle.bindings.specs.Column.{columnsOf, columnsMost}
 use Rattle.bindings.specs.Fit.{fit}
 use Rattle.bindings.proofs.Columns.{from-length}
 use Rattle.bindings.proofs.Sound.{fit-sound}
-use Rattle.table.specs.Layout.{part}
 use Rattle.table.specs.Well.{byFlag}
 
 -- fit bindings have at most five columns
@@ -26,10 +24,3 @@ flag-set flag unset set e = rw e
 
 pub flag-bad : (flag : ℕ) (unset set : Bool) → (flag ≡ 0 → ⊥) → (flag ≡ 1 → ⊥) → byFlag flag unset set ≡ false
 flag-bad flag unset set z o = rw (ne-eqb flag 0 z, ne-eqb flag 1 o)
-
--- what is lent from a place to the place n further on is a part of n words
-pub part-is : (t : List ℕ) (at n : ℕ) → take (at + n - at) (drop at t) ≡ part t at n
-part-is t at n = ap (λ (k : ℕ). take k (drop at t)) same
-  where
-    same : at + n - at ≡ n
-    same = omega arith

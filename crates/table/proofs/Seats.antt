@@ -11,8 +11,9 @@ use lib.ListN.{length, getD, take, drop, length-append, length-drop, length-repl
 use lib.Seq.{drop-cons, drop-drop, length-take-le, take-all, take-at, drop-at}
 use Rattle.lists.specs.Below.{both}
 use Rattle.lists.proofs.Below.{by-test, both-left, both-right, both-true}
-use Rattle.table.specs.Layout.{seatSize, cursorSize, connectedAt, versionAt, firstAt, secondAt, part}
-use Rattle.table.specs.Seat.{Cursor, Seat, zeros, cursorBlock, cursorOf, seatBlock, seatOf}
+use Rattle.table.specs.Layout.{seatSize, cursorSize, connectedAt, versionAt, firstAt, secondAt}
+use Rattle.lists.specs.Parts.{part, zeros}
+use Rattle.table.specs.Seat.{Cursor, Seat, cursorBlock, cursorOf, seatBlock, seatOf}
 use Rattle.table.specs.Well.{cursorWell, seatWell}
 use Rattle.table.specs.Fits.{CursorOk, SeatOk}
 use Rattle.table.proofs.Blocks.{zero-is, zeros-are, cursor-back}

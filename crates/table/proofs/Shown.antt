@@ -17,11 +17,13 @@ use Rattle.bindings.specs.Fit.{fit}
 use Rattle.bindings.specs.declared.Column.{Column}
 use Rattle.bindings.proofs.Sound.{fit-sound}
 use Rattle.bindings.proofs.Records.{words-columns, records-length}
-use Rattle.table.specs.Layout.{cursorSize, recordsAt, recordsSize, rowsAt, rowsSize, part}
-use Rattle.table.specs.Seat.{Cursor, zeros, cursorBlock, cursorOf}
+use Rattle.table.specs.Layout.{cursorSize, recordsAt, recordsSize, rowsAt, rowsSize}
+use Rattle.lists.specs.Parts.{part, zeros}
+use Rattle.table.specs.Seat.{Cursor, cursorBlock, cursorOf}
 use Rattle.table.specs.Well.{allZero, rising, tidy, bindingsWell, cursorWell}
 use Rattle.table.specs.Fits.{CursorFits}
-use Rattle.table.proofs.Blocks.{zeros-are, take-zeros, rising-shown}
+use Rattle.table.proofs.Blocks.{zeros-are, rising-shown}
+use Rattle.lists.proofs.Parts.{take-zeros}
 
 pub words-length : (s : List Column) → length (wordsOf s) ≡ recordsSize
 unfolding wordsOf

@@ -12,14 +12,13 @@ use lib.Seq.{length-take-le, take-at, drop-at, ext-getD, getD-take, getD-drop, g
 use Rattle.lists.specs.Below.{everyBelow}
 use Rattle.bindings.proofs.Sound.{either-way}
 use Rattle.lists.proofs.Below.{by-test, both-left, both-right, both-true, every-at, every-shown}
-use Rattle.table.specs.Layout.{seats, seatSize, tableSize, seatAt, part, put, blockOf}
+use Rattle.table.specs.Layout.{seats, seatSize, tableSize, seatAt, blockOf}
+use Rattle.lists.specs.Parts.{part, put}
 use Rattle.table.specs.Well.{seatWell, tableWell}
+use Rattle.lists.proofs.Parts.{part-length}
 
 pub same-or-not : (a b : ℕ) → (a ≡ b) ⊎ (a ≡ b → ⊥)
 same-or-not a b = by-test (eqb a b) (λ q. inl (eqb-true a b q)) (λ q. inr (eqb-false a b q))
-
-pub part-length : (t : List ℕ) (at n : ℕ) → at + n ≤ length t → length (part t at n) ≡ n
-part-length t at n h = length-take-le n (drop at t) (omega (arith, length-drop at t))
 
 -- a list with other words in a place
 module _ (t : List ℕ) (at n : ℕ) (block : List ℕ) (h : at + n ≤ length t) (l : length block ≡ n) where

@@ -10,8 +10,9 @@ use lib.ListN.{length, getD, take, drop, set, length-replicate, drop-of-length-l
 use lib.Seq.{take-at, drop-at, take-all, paste-suc}
 use Rattle.bindings.specs.Column.{recordsOf, wordsOf}
 use Rattle.bindings.specs.declared.Column.{Column}
-use Rattle.table.specs.Layout.{seatSize, cursorSize, firstAt, secondAt, openAt, positionAt, countAt, columnsAt, widthAt, recordsAt, recordsSize, rowsAt, rowsSize, put}
-use Rattle.table.specs.Seat.{Cursor, Seat, zeros, cursorBlock, seatBlock, fresh, opened, rebound, moved}
+use Rattle.table.specs.Layout.{seatSize, cursorSize, firstAt, secondAt, openAt, positionAt, countAt, columnsAt, widthAt, recordsAt, recordsSize, rowsAt, rowsSize}
+use Rattle.lists.specs.Parts.{put, zeros}
+use Rattle.table.specs.Seat.{Cursor, Seat, cursorBlock, seatBlock, fresh, opened, rebound, moved}
 use Rattle.table.proofs.Shown.{words-length}
 
 pub connect-block : (block : List ℕ) (version : ℕ) → block ≡ seatBlock none → set (set block 0 1) 1 version ≡ seatBlock (some (fresh version))

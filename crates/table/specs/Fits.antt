@@ -1,27 +1,24 @@
 -- What a cursor and a seat must be for their words to pass refusal 2, in plain terms.
 use mathlib.Core.Path.{_≡_}
 use mathlib.Core.Bool.{true}
-use mathlib.Core.List.{List, []}
+use mathlib.Core.List.{[]}
 use mathlib.Core.Logic.{_⊎_}
 use mathlib.Core.Option.{Option, none, some}
-use Prim.Native.Nat.{ℕ, _+_, _≤_, _<_}
-use lib.ListN.{length, getD}
+use Prim.Native.Nat.{_≤_}
+use lib.ListN.{length}
 use Rattle.lists.specs.Every.{every}
 use Rattle.bindings.specs.Fit.{fit}
 use Rattle.table.specs.Layout.{rowsSize}
 use Rattle.table.specs.Seat.{Cursor, Seat}
 use Rattle.table.specs.Well.{tidy}
-
--- "its row numbers rise strictly"
-abbrev pub Rising : List ℕ → Type 0
-Rising rows = (i : ℕ) → i + 1 < length rows → getD rows i 0 < getD rows (i + 1) 0
+use Rattle.lists.specs.Rising.{Rises}
 
 -- "every open cursor's position is at most its selection's length, its row numbers rise strictly, its bindings (if any) pass 12";
 -- a count is in range, and flags are 0 or 1 with zeros under a flag of 0 (`tidy`)
 pub record CursorFits (c : Cursor) : Type 0 where
   pub position : c .position ≤ length (c .selection)
   pub rows : length (c .selection) ≤ rowsSize
-  pub rising : Rising (c .selection)
+  pub rising : Rises (c .selection)
   pub bound : ((c .columns ≡ []) × (c .width ≡ 0)) ⊎ (fit (c .width) (c .columns) ≡ true)
   pub tidied : every tidy (c .columns) ≡ true
 

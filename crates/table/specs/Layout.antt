@@ -1,9 +1,9 @@
 -- The places of the session table's words (docs/TABLE.md), each named once.
-use mathlib.Core.List.{List, _++_}
+use mathlib.Core.List.{List}
 use Prim.Native.Nat.{ℕ, _*_}
 use lib.Dec.{eqb}
-use lib.ListN.{take, drop}
 use Rattle.lists.specs.Below.{pick}
+use Rattle.lists.specs.Parts.{part}
 
 -- "8 seats (0 to 7)": a block for each, one after the other
 abbrev pub seats : ℕ
@@ -66,13 +66,6 @@ rowsAt = 50
 
 abbrev pub rowsSize : ℕ
 rowsSize = 1024
-
--- the n words from a place on, and the list with other words in that place
-abbrev pub part : List ℕ → ℕ → ℕ → List ℕ
-part t at n = take n (drop at t)
-
-abbrev pub put : List ℕ → ℕ → ℕ → List ℕ → List ℕ
-put t at n block = take at t ++ (block ++ drop n (drop at t))
 
 -- a seat's block in the table
 abbrev pub blockOf : List ℕ → ℕ → List ℕ

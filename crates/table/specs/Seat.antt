@@ -4,11 +4,12 @@ use mathlib.Core.List.{List, [], _∷_, _++_}
 use mathlib.Core.Option.{Option, none, some}
 use Prim.Native.Nat.{ℕ, _-_}
 use lib.Dec.{eqb}
-use lib.ListN.{length, getD, take, drop, replicate}
+use lib.ListN.{length, getD, take, drop}
 use Rattle.lists.specs.Below.{pick}
 use Rattle.bindings.specs.Column.{columnsOf, wordsOf}
 use Rattle.bindings.specs.declared.Column.{Column}
-use Rattle.table.specs.Layout.{seatSize, cursorSize, connectedAt, versionAt, firstAt, secondAt, openAt, positionAt, countAt, columnsAt, widthAt, recordsAt, recordsSize, rowsAt, rowsSize, part}
+use Rattle.table.specs.Layout.{seatSize, cursorSize, connectedAt, versionAt, firstAt, secondAt, openAt, positionAt, countAt, columnsAt, widthAt, recordsAt, recordsSize, rowsAt, rowsSize}
+use Rattle.lists.specs.Parts.{part, zeros}
 
 -- an open cursor: how many rows it has carried, the row numbers it selects, and its bindings (no columns: none yet)
 pub record Cursor : Type 0 where
@@ -22,10 +23,6 @@ pub record Seat : Type 0 where
   pub version : ℕ
   pub first : Option Cursor
   pub second : Option Cursor
-
--- n words that are zero
-abbrev pub zeros : ℕ → List ℕ
-zeros n = replicate n 0
 
 -- the words of a cursor; "a word not in use (closed cursor, .. past a list's end)" is zero
 abbrev pub cursorBlock : Option Cursor → List ℕ

@@ -10,7 +10,8 @@ use Rattle.bindings.specs.Column.{columnsOf}
 use Rattle.lists.specs.Every.{every}
 use Rattle.bindings.specs.Fit.{fit}
 use Rattle.bindings.specs.declared.Column.{Column}
-use Rattle.table.specs.Layout.{seats, tableSize, cursorSize, connectedAt, firstAt, secondAt, openAt, positionAt, countAt, columnsAt, widthAt, recordsAt, recordsSize, rowsAt, rowsSize, part, blockOf}
+use Rattle.table.specs.Layout.{seats, tableSize, cursorSize, connectedAt, firstAt, secondAt, openAt, positionAt, countAt, columnsAt, widthAt, recordsAt, recordsSize, rowsAt, rowsSize, blockOf}
+use Rattle.lists.specs.Parts.{part}
 use Rattle.table.specs.Seat.{Cursor, Seat, seatOf}
 
 -- "a word not in use .. isn't zero"

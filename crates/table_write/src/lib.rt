@@ -2,8 +2,9 @@
 ghost use mathlib.Core.Path.{_≡_};
 ghost use mathlib.Core.Option.{none, some};
 ghost use lib.ListN.{length, set};
-ghost use Rattle.table.specs.Layout.{cursorSize, openAt, positionAt, countAt, columnsAt, widthAt, recordsAt, recordsSize, put};
-ghost use Rattle.table.specs.Seat.{zeros, seatBlock, fresh};
+ghost use Rattle.table.specs.Layout.{cursorSize, openAt, positionAt, countAt, columnsAt, widthAt, recordsAt, recordsSize};
+ghost use Rattle.lists.specs.Parts.{put, zeros};
+ghost use Rattle.table.specs.Seat.{seatBlock, fresh};
 
 // Clears words.
 pub fn clear(words: &mut [u32])

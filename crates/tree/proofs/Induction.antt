@@ -1,14 +1,14 @@
 -- What holds of every tree that is read: what holds of a leaf, and passes from children to a node. Assumes nothing.
 use mathlib.Core.Path.{_≡_, refl, subst}
 use mathlib.Core.List.{List}
-use mathlib.Core.Option.{Option, none, some}
+use mathlib.Core.Option.{none, some}
 use Prim.Native.Nat.{ℕ, zero, suc, _+_, _<_}
 use lib.Dec.{leb, eqb}
 use lib.ListN.{length, drop}
 use Rattle.lists.specs.Below.{pick, both}
 use Rattle.wire.specs.Word.{numberAt}
 use Rattle.lists.proofs.Below.{by-test}
-use Rattle.lists.proofs.Options.{none≢some, some-is}
+use Rattle.lists.proofs.Options.{none≢some, some-is, then-inv}
 use Rattle.tree.specs.Leaf.{Leaf}
 use Rattle.wire.specs.Padding.{padding, zeros}
 use Rattle.tree.specs.Parts.{headSize, kindAt, leafAt, withLeaf, leafOf}
@@ -17,12 +17,7 @@ use Rattle.tree.specs.declared.LeafAt.the-variants.{LeafTo, NoLeaf}
 use Rattle.tree.proofs.LeafLaws.{pick-inv}
 use Rattle.tree.proofs.LeafWords.{leaf-read}
 use Rattle.tree.specs.Tree.{Tree, Forest, leaf, and, or, not, end, further}
-use Rattle.tree.specs.Reader.{TreeRead, ForestRead, Read, andThen, readList, isBranch, listHead, joined, branchRead, negated, notRead, leafRead, readNode, readTree}
-
--- what was read came by what was read before it
-pub then-inv : {A B : Type 0} (o : Option A) (f : A → Option B) (b : B) → andThen o f ≡ some b → (a : A) × (o ≡ some a) × (f a ≡ some b)
-then-inv none f b e = absurd (none≢some e)
-then-inv (some a) f b e = (a, refl, e)
+use Rattle.tree.specs.Reader.{TreeRead, ForestRead, Read, readList, isBranch, listHead, joined, branchRead, negated, notRead, leafRead, readNode, readTree}
 
 -- what is said of a tree, and of children, that were read with so many levels and nodes left at a place
 pub record Said : Type 1 where

@@ -13,7 +13,7 @@ use lib.Seq.{drop-drop}
 use Rattle.lists.specs.Below.{pick, both}
 use Rattle.wire.specs.Word.{numberAt}
 use Rattle.lists.proofs.Below.{by-test, true≢false}
-use Rattle.lists.proofs.Options.{none≢some, some-is}
+use Rattle.lists.proofs.Options.{none≢some, some-is, then-inv}
 use Rattle.catalogue.specs.Plain.{Row}
 use Rattle.wire.specs.Padding.{padding, zeros}
 use Rattle.tree.specs.Parts.{kindAt, leafAt, withLeaf, leafOf}
@@ -27,7 +27,6 @@ use Rattle.tree.specs.TreeHolds.{says, everySays, someSays, tellsOf, hol
 use Rattle.tree.specs.Reader.{TreeRead, ForestRead, Read, readList, isBranch, joined, branchRead, negated, notRead, leafRead, readTree, restriction}
 use Rattle.tree.specs.Answer.{isTree}
 use Rattle.tree.proofs.TreeFacts.{held}
-use Rattle.tree.proofs.Induction.{then-inv}
 use Rattle.tree.proofs.TreeLaws.{no-levels, no-nodes, no-head, node-branch, node-not, node-leaf}
 use Rattle.tree.specs.VerdictTold.{told, turned, withChild}
 use Rattle.tree.specs.HoldTold.{leafTold}

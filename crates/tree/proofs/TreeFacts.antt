@@ -8,13 +8,13 @@ use native.Mathlib.Omega.{arith}
 use borrow.Author.Tests.{eqb-true, leb-true}
 use lib.Dec.{leb, eqb}
 use lib.ListN.{length, getD}
-use Rattle.lists.proofs.Options.{none≢some, some-is}
+use Rattle.lists.proofs.Options.{none≢some, some-is, then-inv}
 use Rattle.tree.proofs.LeafLaws.{pick-inv}
 use Rattle.tree.specs.TreeLimits.{bytesMost, nodesMost, levelsMost}
 use Rattle.lists.specs.Rising.{Rises, RisesIn}
 use Rattle.tree.specs.Tree.{Tree, positions, positionsIn, nodesOf, nodesIn, levelsOf, levelsIn}
 use Rattle.tree.specs.Reader.{TreeRead, readTree, whole, restriction}
-use Rattle.tree.proofs.Induction.{then-inv, Said, Passes, of-every-tree}
+use Rattle.tree.proofs.Induction.{Said, Passes, of-every-tree}
 use Rattle.lists.proofs.Rising.{rises-wider, rises-append, rises-between, rises}
 
 -- what a list of bytes that holds a tree says of it

@@ -16,7 +16,8 @@ use Rattle.wire.proofs.Words.{rest}
 use Rattle.tree.specs.Tree.{Forest, end, further}
 use Rattle.wire.specs.Padding.{padding, zeros}
 use Rattle.tree.specs.Parts.{kindAt}
-use Rattle.tree.specs.Reader.{TreeRead, ForestRead, Read, andThen, readList, isBranch, joined, branchRead, negated, notRead, leafRead, readNode, readTree}
+use Rattle.tree.specs.Reader.{TreeRead, ForestRead, Read, readList, isBranch, joined, branchRead, negated, notRead, leafRead, readNode, readTree}
+use Rattle.lists.specs.Options.{andThen}
 use Rattle.tree.specs.Answer.{nodeAnswer, nodeUsed, listAnswer, listUsed, notAnswer, branchAnswer, moreAnswer}
 use Rattle.tree.specs.declared.NodeRead.{NodeRead}
 use Rattle.tree.specs.declared.NodeRead.the-variants.{Node, NoNode}

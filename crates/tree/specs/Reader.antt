@@ -12,6 +12,7 @@ use Rattle.tree.specs.TreeLimits.{bytesMost, nodesMost, levelsMost}
 use Rattle.tree.specs.Tree.{Tree, Forest, leaf, and, or, not, end, further}
 use Rattle.wire.specs.Padding.{padding, zeros}
 use Rattle.tree.specs.Parts.{headSize, kindAt, leafAt, withLeaf, leafOf}
+use Rattle.lists.specs.Options.{andThen}
 
 -- what was read: the tree or the children, the bytes that they take, and how many nodes may still come
 pub record TreeRead : Type 0 where
@@ -27,11 +28,6 @@ pub record ForestRead : Type 0 where
 -- a reader: of the nodes that may still come, the place of the first byte, and the unread bytes
 abbrev pub Read : Type 0
 Read = ℕ → ℕ → List ℕ → Option TreeRead
-
--- what was read is handed on; nothing stays nothing
-abbrev pub andThen : {A B : Type 0} → Option A → (A → Option B) → Option B
-andThen none f = none
-andThen (some a) f = f a
 
 -- "Children follow each other": that many, each after padding "such that each structure begins at an offset that is a multiple of 4"
 unfoldable pub readList : Read → ℕ → ℕ → ℕ → List ℕ → Option ForestRead

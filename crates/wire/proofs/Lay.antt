@@ -10,7 +10,8 @@ use borrow.Author.Tests.{ltb-true, ltb-false}
 use lib.Dec.{ltb}
 use lib.Seq.{sets, sets-eq, paste, ext-getD, take-at, drop-at, take-all, getD-take, getD-drop, getD-append-add, length-take-le, drop-append-add, drop-drop}
 use Rattle.lists.proofs.Below.{by-test}
-use Rattle.wire.specs.Laid.{lay, part}
+use Rattle.wire.specs.Laid.{lay}
+use Rattle.lists.specs.Parts.{part}
 
 -- a run of stores, and a copy that is through
 pub stores : (t : List ℕ) (at : ℕ) (b : List ℕ) → at + length b ≤ length t → sets t at b ≡ lay t at b
@@ -66,7 +67,7 @@ module _ (t : List ℕ) (at : ℕ) (b : List ℕ) (inside : at + length b ≤ le
   lay-outside i w = ⊎-elim (lay-before i) (lay-after i) w
 
   -- what was laid is read back
-  pub lay-read : part (length b) at (lay t at b) ≡ b
+  pub lay-read : part (lay t at b) at (length b) ≡ b
   unfolding lay
   lay-read =
       ap (take (length b)) (drop-at (take at t) (b ++ drop (at + length b) t) at (length-take-le at t (omega arith)))
@@ -74,19 +75,19 @@ module _ (t : List ℕ) (at : ℕ) (b : List ℕ) (inside : at + length b ≤ le
 
 -- two lists that agree on the bytes of a part have the same part
 part-same : (n at : ℕ) (s t : List ℕ) → length s ≡ length t → ((i : ℕ) → i < n → getD s (at + i) 0 ≡ getD t (at + i) 0)
-    → part n at s ≡ part n at t
+    → part s at n ≡ part t at n
 part-same n at s t e f =
-    ext-getD 0 (part n at s) (part n at t)
+    ext-getD 0 (part s at n) (part t at n)
     (long s ∙ ap (λ (k : ℕ). min n (k - at)) e ∙ sym (long t))
     (λ i h. byte s i (less i h) ∙ f i (less i h) ∙ sym (byte t i (less i h)))
   where
-    long : (u : List ℕ) → length (part n at u) ≡ min n (length u - at)
+    long : (u : List ℕ) → length (part u at n) ≡ min n (length u - at)
     long u = length-take n (drop at u) ∙ ap (min n) (length-drop at u)
 
-    less : (i : ℕ) → i < length (part n at s) → i < n
+    less : (i : ℕ) → i < length (part s at n) → i < n
     less i h = omega (arith, long s)
 
-    byte : (u : List ℕ) (i : ℕ) → i < n → getD (part n at u) i 0 ≡ getD u (at + i) 0
+    byte : (u : List ℕ) (i : ℕ) → i < n → getD (part u at n) i 0 ≡ getD u (at + i) 0
     byte u i h = getD-take n (drop at u) i 0 h ∙ getD-drop at u i 0
 
 -- a place is one of a span's, or before it, or after it
@@ -101,7 +102,7 @@ module _ {P : Type 0} (at n k : ℕ) where
 
 -- a part that is clear of what was laid is as it was
 pub lay-other : (t : List ℕ) (at : ℕ) (b : List ℕ) (n p : ℕ) → at + length b ≤ length t → (p + n ≤ at) ⊎ (at + length b ≤ p)
-    → part n p (lay t at b) ≡ part n p t
+    → part (lay t at b) p n ≡ part t p n
 lay-other t at b n p inside w =
     part-same n p (lay t at b) t (lay-length t at b inside)
     (λ i h. lay-outside t at b inside (p + i) (⊎-elim (λ (l : p + n ≤ at). inl (omega arith)) (λ (l : at + length b ≤ p). inr (omega arith)) w))

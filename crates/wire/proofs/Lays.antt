@@ -9,7 +9,8 @@ use native.Mathlib.Omega.{arith}
 use lib.ListN.{length, getD, take, drop}
 use lib.Seq.{take-append-le, drop-append-le}
 use Rattle.lists.specs.Each.{Each, Pairwise}
-use Rattle.wire.specs.Laid.{lay, Laid, lays, endOf, Inside, Clear, Outside, part}
+use Rattle.wire.specs.Laid.{lay, Laid, lays, endOf, Inside, Clear, Outside}
+use Rattle.lists.specs.Parts.{part}
 use Rattle.wire.proofs.Lay.{lay-length, lay-outside, lay-read, lay-other, lay-comm}
 
 -- a statement of each member, and of each of two lists joined
@@ -68,7 +69,7 @@ lays-outside t (a ∷ s) i e o =
 
 -- and so is a part clear of all of them
 pub lays-other : (t : List ℕ) (s : List Laid) (n p : ℕ) → Each (Inside (length t)) s
-    → Each (λ (a : Laid). (p + n ≤ a .place) ⊎ (endOf a ≤ p)) s → part n p (lays t s) ≡ part n p t
+    → Each (λ (a : Laid). (p + n ≤ a .place) ⊎ (endOf a ≤ p)) s → part (lays t s) p n ≡ part t p n
 unfolding lays Each
 lays-other t [] n p e o = refl
 lays-other t (a ∷ s) n p e o =
@@ -77,7 +78,7 @@ lays-other t (a ∷ s) n p e o =
 
 -- where no two meet, each is read back
 pub lays-read : (t : List ℕ) (s : List Laid) (d : Laid) → Each (Inside (length t)) s → Pairwise Clear s → (i : ℕ) → i < length s
-    → part (length (getD s i d .bytes)) (getD s i d .place) (lays t s) ≡ getD s i d .bytes
+    → part (lays t s) (getD s i d .place) (length (getD s i d .bytes)) ≡ getD s i d .bytes
 unfolding lays Pairwise
 lays-read t [] d e c i h = absurd (not-suc-le-zero h)
 lays-read t (a ∷ s) d e c zero h =

@@ -7,7 +7,8 @@ use native.Mathlib.Nat.{pow-suc, div-lt-iff-lt-mul}
 use native.Mathlib.Omega.{arith}
 use lib.ListN.{length, length-append}
 use Rattle.wire.specs.Word.{number, numberAt, le}
-use Rattle.wire.specs.Laid.{lay, part, fourWords}
+use Rattle.wire.specs.Laid.{lay, fourWords}
+use Rattle.lists.specs.Parts.{part}
 use Rattle.wire.proofs.Lay.{lay-next}
 
 pub le-length : (n v : ℕ) → length (le n v) ≡ n
@@ -37,7 +38,7 @@ number-le zero v h = omega arith
 number-le (suc n) v h = omega (arith, number-le n (v / 256) (div-lt-iff-lt-mul {k = 256} {x = v} {y = 256 ^ n} (omega arith) .1 (rw pow-suc at h)))
 
 -- so it is read back where they stand
-pub read-number : (t : List ℕ) (n at v : ℕ) → v < 256 ^ n → part n at t ≡ le n v → numberAt n t at ≡ v
+pub read-number : (t : List ℕ) (n at v : ℕ) → v < 256 ^ n → part t at n ≡ le n v → numberAt n t at ≡ v
 unfolding numberAt
 read-number t n at v h e = ap number e ∙ number-le n v h
 

@@ -36,10 +36,6 @@ Clear a b = (endOf a ≤ b .place) ⊎ (endOf b ≤ a .place)
 abbrev pub Outside : ℕ → Laid → Type 0
 Outside i a = (i < a .place) ⊎ (endOf a ≤ i)
 
--- the bytes of a list at a place
-abbrev pub part : ℕ → ℕ → List ℕ → List ℕ
-part n at t = take n (drop at t)
-
 -- the first n bytes zero, the others as they were
 abbrev pub cleared : ℕ → List ℕ → List ℕ
 cleared n t = replicate n 0 ++ drop n t

@@ -7,7 +7,7 @@ use native.Mathlib.Omega.{arith}
 use Prim.Native.Nat.{ℕ, _*_}
 use mathlib.Core.List.{List, []}
 use Rattle.table.specs.Layout.{seatSize}
-use Rattle.table.proofs.Judging.{part-is}
+use Rattle.lists.proofs.Parts.{part-is}
 use Rattle.table.proofs.Tables.{table-length}
 use Rattle.call.specs.Step.{sourcesOf, Keeps, connectStep}
 use Rattle.call.proofs.Causes.{passes}

@@ -2,18 +2,16 @@
 use borrow.Author.Needs.{needs}
 use Rattle.call_message.proofs.message.Statement.{statement}
 use Rattle.call_message.proofs.message.Tie as tie
-use Rattle.call.proofs.Sourcing.{noted-length}
-use lib.ListN.{length-replicate}
-use Rattle.call.proofs.Sourcing.{sourced}
+use Rattle.call.proofs.Sourcing.{noted-length, sourced}
+use lib.ListN.{length-replicate, length}
 use Rattle.call.proofs.Opening.{places-noted}
 use Rattle.call.proofs.Messaging.{message-judged, room-refused, short-refused, long-refused, message-answered}
 use Rattle.call.proofs.Causes.{passes}
 use Rattle.call.specs.Step.{sourcesOf}
 use Rattle.table.proofs.Tables.{table-length, table-seat, block-size}
-use Rattle.table.proofs.Judging.{part-is}
+use Rattle.lists.proofs.Parts.{part-is}
 use Rattle.table.specs.Well.{seatWell}
 use Rattle.table.specs.Layout.{seatSize}
-use lib.ListN.{length}
 use Prim.Native.Nat.{ℕ, _*_}
 use native.Mathlib.Omega.{arith}
 use mathlib.Core.Path.{sym, ap, _∙_}

@@ -6,8 +6,9 @@ use mathlib.Core.Path.{sym, ap, _∙_}
 use native.Mathlib.Omega.{arith}
 use Prim.Native.Nat.{ℕ, _*_}
 use lib.ListN.{length, length-replicate}
-use Rattle.table.specs.Layout.{seatSize, cursorSize, cursorPlace, part, put}
-use Rattle.table.proofs.Judging.{part-is}
+use Rattle.table.specs.Layout.{seatSize, cursorSize, cursorPlace}
+use Rattle.lists.specs.Parts.{part, put}
+use Rattle.lists.proofs.Parts.{part-is}
 use Rattle.table.proofs.Tables.{table-length, block-size}
 use Rattle.call.specs.Step.{sourcesOf, seatHeld}
 use Rattle.call.proofs.Causes.{passes}

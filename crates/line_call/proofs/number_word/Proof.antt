@@ -2,7 +2,7 @@
 use mathlib.Core.Path.{sym, _∙_}
 use native.Mathlib.Omega.{arith}
 use Rattle.line.specs.Digits.{decimal}
-use Rattle.line.specs.Line.{between}
+use Rattle.lists.specs.Parts.{between}
 use Rattle.line.proofs.LineLaws.{number-missing, number-found, told-bad, told-is}
 use borrow.Author.Needs.{needs}
 use Rattle.line_call.proofs.number_word.Statement.{statement}

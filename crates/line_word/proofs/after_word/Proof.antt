@@ -6,7 +6,8 @@ use mathlib.Core.Path.{_≡_, refl, sym, ap, _∙_}
 use Prim.Native.Nat.{_+_, _-_, _≤_}
 use native.Mathlib.Omega.{arith}
 use lib.ListN.{length, drop}
-use Rattle.line.specs.Runs.{run, opposite, inWord}
+use mathlib.Core.Bool.{not}
+use Rattle.line.specs.Runs.{run, inWord}
 use Rattle.line.proofs.RunLaws.{run-more, run-stops, run-ends}
 
 abbrev Inv-loop : tie.InvT-loop
@@ -28,7 +29,7 @@ returns : tie.Need-returns Inv-loop μ-loop
 returns c =
     let l = c .before .before .before .before .loop in
     let s = c .before .before .before .before .before .before .args .line .now in
-    (sym (l .inv .2 ∙ run-stops inWord s (l .i) (omega arith) (ap opposite (sym (c .before .separates .ensures) ∙ c .if1 .taken))), l .inv .0, l .inv .1)
+    (sym (l .inv .2 ∙ run-stops inWord s (l .i) (omega arith) (ap not (sym (c .before .separates .ensures) ∙ c .if1 .taken))), l .inv .0, l .inv .1)
 
 add-i : tie.Need-add-i Inv-loop μ-loop
 add-i c = search needs
@@ -40,7 +41,7 @@ loop-again : tie.Need-loop-again Inv-loop μ-loop
 loop-again c =
     let l = c .before .before .before .before .loop in
     let s = c .before .before .before .before .before .before .args .line .now in
-    (omega arith, omega arith, l .inv .2 ∙ run-more inWord s (l .i) (omega arith) (ap opposite (sym (c .before .separates .ensures) ∙ c .if1 .left)))
+    (omega arith, omega arith, l .inv .2 ∙ run-more inWord s (l .i) (omega arith) (ap not (sym (c .before .separates .ensures) ∙ c .if1 .left)))
 
 returns-2 : tie.Need-returns-2 Inv-loop μ-loop
 returns-2 c =

@@ -7,7 +7,8 @@ use Prim.Native.Nat.{_+_, _-_, _≤_}
 use native.Mathlib.Omega.{arith}
 use borrow.Author.Tests.{eq-eqb, ne-eqb}
 use lib.ListN.{length, drop}
-use Rattle.line.specs.Runs.{run, opposite, inCall}
+use mathlib.Core.Bool.{not}
+use Rattle.line.specs.Runs.{run, inCall}
 use Rattle.line.proofs.RunLaws.{run-more, run-stops, run-ends}
 
 abbrev Inv-loop : tie.InvT-loop
@@ -26,7 +27,7 @@ returns : tie.Need-returns Inv-loop μ-loop
 returns c =
     let l = c .before .before .before .loop in
     let s = c .before .before .before .before .args .line .now in
-    (sym (l .inv .1 ∙ run-stops inCall s (l .i) (omega arith) (ap opposite (eq-eqb _ 35 (c .if1 .taken)))), l .inv .0)
+    (sym (l .inv .1 ∙ run-stops inCall s (l .i) (omega arith) (ap not (eq-eqb _ 35 (c .if1 .taken)))), l .inv .0)
 
 add-i : tie.Need-add-i Inv-loop μ-loop
 add-i c = search needs
@@ -38,7 +39,7 @@ loop-again : tie.Need-loop-again Inv-loop μ-loop
 loop-again c =
     let l = c .before .before .before .loop in
     let s = c .before .before .before .before .args .line .now in
-    (omega arith, l .inv .1 ∙ run-more inCall s (l .i) (omega arith) (ap opposite (ne-eqb _ 35 (c .if1 .left))))
+    (omega arith, l .inv .1 ∙ run-more inCall s (l .i) (omega arith) (ap not (ne-eqb _ 35 (c .if1 .left))))
 
 returns-2 : tie.Need-returns-2 Inv-loop μ-loop
 returns-2 c =

@@ -7,7 +7,8 @@ use Prim.Native.Nat.{_+_, _-_, _≤_}
 use native.Mathlib.Omega.{arith}
 use borrow.Author.Tests.{eq-eqb, ne-eqb}
 use lib.ListN.{length, drop}
-use Rattle.line.specs.Runs.{run, opposite, inLine}
+use mathlib.Core.Bool.{not}
+use Rattle.line.specs.Runs.{run, inLine}
 use Rattle.line.proofs.RunLaws.{run-more, run-stops, run-ends}
 
 abbrev Inv-loop : tie.InvT-loop
@@ -26,7 +27,7 @@ returns : tie.Need-returns Inv-loop μ-loop
 returns c =
     let l = c .before .before .before .loop in
     let s = c .before .before .before .before .args .chunk .now in
-    (sym (l .inv .2 ∙ run-stops inLine s (l .i) (omega arith) (ap opposite (eq-eqb _ 10 (c .if1 .taken)))), l .inv .0, l .inv .1)
+    (sym (l .inv .2 ∙ run-stops inLine s (l .i) (omega arith) (ap not (eq-eqb _ 10 (c .if1 .taken)))), l .inv .0, l .inv .1)
 
 add-i : tie.Need-add-i Inv-loop μ-loop
 add-i c = search needs
@@ -38,7 +39,7 @@ loop-again : tie.Need-loop-again Inv-loop μ-loop
 loop-again c =
     let l = c .before .before .before .loop in
     let s = c .before .before .before .before .args .chunk .now in
-    (omega arith, omega arith, l .inv .2 ∙ run-more inLine s (l .i) (omega arith) (ap opposite (ne-eqb _ 10 (c .if1 .left))))
+    (omega arith, omega arith, l .inv .2 ∙ run-more inLine s (l .i) (omega arith) (ap not (ne-eqb _ 10 (c .if1 .left))))
 
 returns-2 : tie.Need-returns-2 Inv-loop μ-loop
 returns-2 c =

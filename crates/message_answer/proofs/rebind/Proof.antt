@@ -7,8 +7,9 @@ use Prim.Native.Nat.{ℕ}
 use native.Mathlib.Omega.{arith}
 use mathlib.Core.List.{List}
 use lib.ListN.{set}
-use Rattle.table.specs.Layout.{cursorSize, columnsAt, widthAt, recordsAt, recordsSize, part, put}
-use Rattle.table.proofs.Judging.{part-is}
+use Rattle.table.specs.Layout.{cursorSize, columnsAt, widthAt, recordsAt, recordsSize}
+use Rattle.lists.specs.Parts.{part, put}
+use Rattle.lists.proofs.Parts.{part-is}
 use Rattle.table.proofs.Handles.{place-inside, put-is}
 
 cursor-at-requires : tie.Need-cursor-at-requires

@@ -7,10 +7,9 @@ use Prim.Native.Nat.{ℕ, _+_, _≤_}
 use native.Mathlib.Omega.{arith}
 use mathlib.Core.List.{List}
 use lib.ListN.{length}
-use Rattle.table.specs.Layout.{cursorSize, put}
-use Rattle.table.specs.Seat.{zeros}
-use Rattle.table.proofs.Tables.{part-length}
-use Rattle.table.proofs.Judging.{part-is}
+use Rattle.table.specs.Layout.{cursorSize}
+use Rattle.lists.specs.Parts.{put, zeros}
+use Rattle.lists.proofs.Parts.{part-length, part-is}
 use Rattle.table.proofs.Handles.{place-inside, put-is}
 
 cursor-at-requires : tie.Need-cursor-at-requires

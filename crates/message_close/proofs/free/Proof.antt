@@ -6,7 +6,8 @@ use mathlib.Core.Path.{sym, ap, _∙_}
 use Prim.Native.Nat.{ℕ}
 use native.Mathlib.Omega.{arith}
 use borrow.Author.Tests.{not-true, not-false}
-use Rattle.table.specs.Layout.{cursorSize, cursorPlace, put}
+use Rattle.table.specs.Layout.{cursorSize, cursorPlace}
+use Rattle.lists.specs.Parts.{put}
 use Rattle.table.specs.Seat.{cursorBlock, seatIn, cursorIn}
 use Rattle.table.specs.Open.{isOpen}
 use Rattle.message.proofs.Answering.{block-is, refused-answers, body-refused}

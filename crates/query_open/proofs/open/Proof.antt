@@ -6,8 +6,9 @@ use mathlib.Core.Path.{ap, ap₂, _∙_}
 use Prim.Native.Nat.{ℕ}
 use mathlib.Core.List.{List}
 use native.Mathlib.Omega.{arith}
-use Rattle.table.specs.Layout.{cursorSize, part, put}
-use Rattle.table.proofs.Judging.{part-is}
+use Rattle.table.specs.Layout.{cursorSize}
+use Rattle.lists.specs.Parts.{part, put}
+use Rattle.lists.proofs.Parts.{part-is}
 use Rattle.table.proofs.Handles.{place-inside, put-is}
 
 cursor-at-requires : tie.Need-cursor-at-requires

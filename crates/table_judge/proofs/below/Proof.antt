@@ -13,7 +13,7 @@ use Rattle.lists.proofs.Below.{every-shown, every-broken}
 use Rattle.table.specs.Layout.{seatSize, blockOf}
 use Rattle.table.specs.Seat.{seatOf}
 use Rattle.table.specs.Well.{seatWell, seatBelow, tableBelow}
-use Rattle.table.proofs.Judging.{part-is}
+use Rattle.lists.proofs.Parts.{part-is}
 use Rattle.table.proofs.Tables.{table-length, table-seat, block-size}
 
 abbrev Inv-loop : tie.InvT-loop

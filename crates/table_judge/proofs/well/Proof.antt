@@ -12,7 +12,7 @@ use borrow.Author.Tests.{eq-eqb, ne-eqb, not-true, not-false}
 use Rattle.lists.proofs.Below.{both-stop, both-go, every-shown, every-broken}
 use Rattle.table.specs.Layout.{seatSize, tableSize, blockOf}
 use Rattle.table.specs.Well.{seatWell, tableWell}
-use Rattle.table.proofs.Judging.{part-is}
+use Rattle.lists.proofs.Parts.{part-is}
 
 abbrev Inv-loop : tie.InvT-loop
 Inv-loop table seat₀ seat = (seat ≤ 8) × ((k : ℕ) → k < seat → seatWell (blockOf table k) ≡ true)

@@ -5,7 +5,7 @@ use Rattle.table_write.proofs.bind.Tie as tie
 use mathlib.Core.Path.{ap, _∙_}
 use native.Mathlib.Omega.{arith}
 use lib.ListN.{length, set, length-set}
-use Rattle.table.specs.Layout.{put}
+use Rattle.lists.specs.Parts.{put}
 use Rattle.table.proofs.Tables.{put-length}
 
 slice-write-cursor : tie.Need-slice-write-cursor

@@ -7,7 +7,7 @@ use mathlib.Core.Path.{_≡_, refl, ap₂, _∙_}
 use mathlib.Core.List.{List, _++_, append-nil}
 use lib.ListN.{length, drop, length-set, drop-of-length-le}
 use borrow.Author.Fill.{fill-more}
-use Rattle.table.specs.Seat.{zeros}
+use Rattle.lists.specs.Parts.{zeros}
 
 abbrev Inv-loop : tie.InvT-loop
 Inv-loop words₀ i₀ words i = (length words ≡ length words₀) × (i ≤ length words₀) × (words ≡ zeros i ++ drop i words₀)
