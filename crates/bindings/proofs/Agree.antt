@@ -5,7 +5,7 @@ use mathlib.Core.Bool.{Bool, true, false}
 use mathlib.Core.List.{List, [], _∷_}
 use mathlib.Core.Option.{Option, none, some}
 use Prim.Native.Nat.{ℕ, zero, suc, _+_, _≤_, _<_}
-use native.Mathlib.Nat.{add-zero}
+use native.Mathlib.Nat.{add-zero, zero-add}
 use native.Mathlib.Numerals.{add-one}
 use native.Mathlib.Omega.{arith}
 use borrow.Author.Tests.{le-leb, lt-leb, leb-true, leb-false, eqb-true, eqb-false}
@@ -21,11 +21,13 @@ use Rattle.bindings.specs.declared.Column.{Column}
 use Rattle.bindings.specs.declared.SpotRead.{SpotRead}
 use Rattle.bindings.specs.declared.ValueRead.{ValueRead}
 use Rattle.bindings.specs.declared.ColumnRead.{ColumnRead}
-use Rattle.wire.specs.Fields.{ofPlace, ofNumber, withRead, padCount, paddedOn, numberOn, flagOn, setSize, setFirst, setOurs, numbered, kindAt, propertyAt, specSize, propertyOn}
+use Rattle.wire.specs.FieldPlaces.{ofPlace, ofNumber, withRead, paddedOn, numberOn, flagOn, propertyOn}
+use Rattle.wire.specs.Padding.{padding, zeroAt}
+use Rattle.wire.specs.PropertySpec.{setSize, setFirst, setOurs, numbered, kindAt, prSpecAt, specSize}
 use Rattle.bindings.specs.Wire.{ofSpot, ofValue, ofColumn, spotOn, valueOn, typeWidth, columnOn}
 use Rattle.bindings.specs.Bindings.{columnsAt, before, columnsOn, bindingsOn}
 use Rattle.lists.specs.Options.{andThen}
-use Rattle.bindings.specs.Plain.{Parsed, bytes, numeral, zeroBytes, padding, flag, spot, value, isOurs, property, column, columns, bindings}
+use Rattle.bindings.specs.Plain.{Parsed, bytes, numeral, zeroBytes, padded, flag, spot, value, property, column, columns, bindings}
 
 -- what the parser gives is what the reader gives, with the bytes from the place after it, which lies in the message
 abbrev Agree : {A : Type 0} → List ℕ → Parsed A → Option (A × ℕ) → Type 0
@@ -125,20 +127,20 @@ zero-bytes (suc n) at (b ∷ s) =
     one-more : at + 1 + n ≡ at + suc n
     one-more = omega arith
 
-pad-agrees : (unit : ℕ) (m : List ℕ) (at : ℕ) → at ≤ length m → Agree m (padding unit at (drop at m)) (ofPlace (paddedOn unit m at))
-unfolding paddedOn
+pad-agrees : (unit : ℕ) (m : List ℕ) (at : ℕ) → at ≤ length m → Agree m (padded unit at (drop at m)) (ofPlace (paddedOn unit m at))
+unfolding paddedOn zeroAt
 pad-agrees unit m at h =
-    rw (zero-bytes (padCount unit at) at (drop at m), same, drop-drop (padCount unit at) at m)
-    (by-test (leb (at + padCount unit at) (length m))
+    rw (zero-bytes (padding unit at) at (drop at m), same, drop-drop (padding unit at) at m)
+    (by-test (leb (at + padding unit at) (length m))
     (λ q.
-    rw (q, le-leb (padCount unit at) (length (drop at m)) (omega (arith, length-drop at m, leb-true (at + padCount unit at) (length m) q)))
-    (by-test (everyBelow (padCount unit at) (λ i. eqb (getD m (at + i) 0) 0))
-    (λ r. rw r (refl, leb-true (at + padCount unit at) (length m) q))
+    rw (q, le-leb (padding unit at) (length (drop at m)) (omega (arith, length-drop at m, leb-true (at + padding unit at) (length m) q)))
+    (by-test (everyBelow (padding unit at) (λ i. eqb (getD m (at + i) 0) 0))
+    (λ r. rw r (refl, leb-true (at + padding unit at) (length m) q))
     (λ r. rw r)))
-    (λ q. rw (q, lt-leb (padCount unit at) (length (drop at m)) (omega (arith, length-drop at m, leb-false (at + padCount unit at) (length m) q)))))
+    (λ q. rw (q, lt-leb (padding unit at) (length (drop at m)) (omega (arith, length-drop at m, leb-false (at + padding unit at) (length m) q)))))
   where
-    same : everyBelow (padCount unit at) (λ i. eqb (getD (drop at m) i 0) 0) ≡ everyBelow (padCount unit at) (λ i. eqb (getD m (at + i) 0) 0)
-    same = every-like (padCount unit at) (λ i. eqb (getD (drop at m) i 0) 0) (λ i. eqb (getD m (at + i) 0) 0) (λ k l. rw (getD-drop at m k 0))
+    same : everyBelow (padding unit at) (λ i. eqb (getD (drop at m) i 0) 0) ≡ everyBelow (padding unit at) (λ i. eqb (getD m (at + i) 0) 0)
+    same = every-like (padding unit at) (λ i. eqb (getD (drop at m) i 0) 0) (λ i. eqb (getD m (at + i) 0) 0) (λ k l. rw (getD-drop at m k 0))
 
 -- the parts of a column, and the column
 module _ (m : List ℕ) where
@@ -156,7 +158,7 @@ module _ (m : List ℕ) where
   spot-agrees at =
       bind Spots SpotRead.Malformed refl m (flag at (drop at m)) (ofNumber (flagOn m at)) (flag-agrees m at) _ _ (λ used next l.
       choose Spots (eqb used 0) _ _ _ _ (refl, l)
-      (bind Spots SpotRead.Malformed refl m (padding 2 next (drop next m)) (ofPlace (paddedOn 2 m next)) (pad-agrees 2 m next l) _ _ (λ _ place k.
+      (bind Spots SpotRead.Malformed refl m (padded 2 next (drop next m)) (ofPlace (paddedOn 2 m next)) (pad-agrees 2 m next l) _ _ (λ _ place k.
       bind Spots SpotRead.Malformed refl m (numeral 2 place (drop place m)) (ofNumber (numberOn 2 m place)) (number-agrees 2 m place k) _ _ (λ offset after j. (refl, j)))))
 
   value-agrees : (at : ℕ) → Values (value at (drop at m)) (valueOn m at)
@@ -167,11 +169,11 @@ module _ (m : List ℕ) where
       (bind Values ValueRead.Malformed refl m (numeral 2 next (drop next m)) (ofNumber (numberOn 2 m next)) (number-agrees 2 m next l) _ _ (λ size after j. (refl, j))))
 
   -- the set identifier, as bytes taken and as bytes at a place
-  set-agrees : (at : ℕ) → isOurs (take setSize (drop at m)) ≡ setOurs m at
+  set-agrees : (at : ℕ) → setOurs (take setSize (drop at m)) 0 ≡ setOurs m at
   unfolding setOurs
   set-agrees at =
-      every-like setSize (λ i. eqb (getD (take setSize (drop at m)) i 0) (setFirst + i)) (λ i. eqb (getD m (at + i) 0) (setFirst + i)) (λ k l.
-      rw (getD-take setSize (drop at m) k 0 l, getD-drop at m k 0))
+      every-like setSize (λ i. eqb (getD (take setSize (drop at m)) (0 + i) 0) (setFirst + i)) (λ i. eqb (getD m (at + i) 0) (setFirst + i)) (λ k l.
+      rw (zero-add k, getD-take setSize (drop at m) k 0 l, getD-drop at m k 0))
 
   property-agrees : (at : ℕ) → at ≤ length m → Agree m (property at (drop at m)) (ofNumber (propertyOn m at))
   unfolding property propertyOn numberAt
@@ -179,7 +181,7 @@ module _ (m : List ℕ) where
       by-test (leb (at + specSize) (length m))
       (λ q.
       let l = leb-true (at + specSize) (length m) q in
-      rw (q, bytes-there setSize m at h (omega arith), bytes-there 4 m (at + setSize) (omega arith) (omega arith), third, bytes-there 4 m (at + propertyAt) (omega arith) (omega arith), last, set-agrees at)
+      rw (q, bytes-there setSize m at h (omega arith), bytes-there 4 m (at + setSize) (omega arith) (omega arith), third, bytes-there 4 m (at + prSpecAt) (omega arith) (omega arith), last, set-agrees at)
       (choose (λ p r. Agree m p (ofNumber r)) (eqb (number (take 4 (drop (at + kindAt) m))) numbered) _ _ _ _ (refl, l) refl))
       (λ q.
       let l = leb-false (at + specSize) (length m) q in
@@ -187,10 +189,10 @@ module _ (m : List ℕ) where
       (bytes-none setSize m at h _ (λ set a.
       number-none 4 m (at + setSize) a _ (λ kind b. number-none 4 m (at + setSize + 4) b _ (λ v e. absurd (omega arith))))))
     where
-      third : at + setSize + 4 ≡ at + propertyAt
+      third : at + setSize + 4 ≡ at + prSpecAt
       third = omega arith
 
-      last : at + propertyAt + 4 ≡ at + specSize
+      last : at + prSpecAt + 4 ≡ at + specSize
       last = omega arith
 
   column-agrees : (at : ℕ) → at ≤ length m → Columns (column at (drop at m)) (columnOn m at)
@@ -214,7 +216,7 @@ module _ (m : List ℕ) where
   unfolding columns columnsOn
   columns-agree zero at h = end-agrees at h
   columns-agree (suc n) at h =
-      bind _≡_ none refl m (padding 4 at (drop at m)) (ofPlace (paddedOn 4 m at)) (pad-agrees 4 m at h) _ _ (λ _ place l.
+      bind _≡_ none refl m (padded 4 at (drop at m)) (ofPlace (paddedOn 4 m at)) (pad-agrees 4 m at h) _ _ (λ _ place l.
       bind _≡_ none refl m (column place (drop place m)) (ofColumn (columnOn m place)) (column-agrees place l) _ _ (λ c next k.
       ap (before c) (columns-agree n next k)))
 

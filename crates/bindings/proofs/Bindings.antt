@@ -12,7 +12,7 @@ use Rattle.lists.specs.Below.{pick}
 use Rattle.lists.proofs.Below.{by-test}
 use Rattle.bindings.specs.Column.{kept, keptAll}
 use Rattle.bindings.specs.declared.Column.{Column}
-use Rattle.wire.specs.Fields.{ofPlace, withRead, paddedOn}
+use Rattle.wire.specs.FieldPlaces.{ofPlace, withRead, paddedOn}
 use Rattle.bindings.specs.Wire.{ofColumn, columnOn}
 use Rattle.bindings.specs.Bindings.{before, columnsOn, keeping, keptOr}
 use Rattle.wire.specs.declared.PlaceRead.{PlaceRead}

@@ -7,11 +7,11 @@ use native.Mathlib.Omega.{arith}
 use borrow.Author.Tests.{le-leb, lt-ltb, eq-eqb, ne-eqb, leb-true, leb-false, ltb-true, ltb-false, eqb-true}
 use lib.Dec.{leb, ltb}
 use lib.ListN.{length}
-use Rattle.lists.specs.Below.{both}
+use Rattle.lists.specs.Below.{both, within}
 use Rattle.lists.proofs.Below.{by-test, both-left, both-right, both-true}
 use Rattle.lists.specs.Every.{every, pairwise}
 use Rattle.bindings.specs.Column.{columnsMost}
-use Rattle.wire.specs.Property.{keyProperty, noteProperty, within, known, cellSize, statusSize, lengthSize}
+use Rattle.wire.specs.Property.{keyProperty, noteProperty, known, cellSize, statusSize, lengthSize}
 use Rattle.bindings.specs.Fit.{isUsed, sized, typed, columnFits, differ, spanIf, spansOf, inside, apart, rowMost, columnsFit, fit}
 use Rattle.bindings.specs.Sound.{column, span, Holds, Sound}
 use Rattle.bindings.specs.declared.Value.{Value}

@@ -10,11 +10,10 @@ use borrow.Author.Tests.{lt-ltb, le-ltb, ltb-true, ltb-false, leb-true, leb-fals
 use lib.Dec.{ltb, leb}
 use lib.ListN.{length, getD, take, drop, set, length-append}
 use lib.Seq.{sets-eq, take-at, take-append-add, drop-append-add, getD-append-add}
-use Rattle.lists.specs.Below.{both}
+use Rattle.lists.specs.Below.{both, within}
 use Rattle.lists.proofs.Below.{by-test}
 use Rattle.bindings.specs.Column.{columnAt, columnsFrom, columnsOf, recordOf, recordsOf, noWords, wordsOf, kept, keptAll, columnsMost}
 use Rattle.lists.specs.Parts.{zeros}
-use Rattle.wire.specs.Property.{within}
 use Rattle.bindings.specs.Fit.{fit, rowMost, columnsFit}
 use Rattle.bindings.specs.declared.Column.{Column}
 use Rattle.bindings.proofs.Columns.{from-length}

@@ -8,11 +8,11 @@ use native.Mathlib.Omega.{arith}
 use borrow.Author.Tests.{leb-true, ltb-true, ltb-false, eqb-true, eqb-false, eq-eqb, not-true}
 use lib.Dec.{leb, ltb}
 use lib.ListN.{length}
-use Rattle.lists.specs.Below.{both}
+use Rattle.lists.specs.Below.{both, within}
 use Rattle.lists.proofs.Below.{by-test, both-left, both-right}
 use Rattle.lists.specs.Every.{every, pairwise}
 use Rattle.bindings.specs.Column.{columnsMost}
-use Rattle.wire.specs.Property.{keyProperty, noteProperty, within, known, cellSize}
+use Rattle.wire.specs.Property.{keyProperty, noteProperty, known, cellSize}
 use Rattle.bindings.specs.Fit.{sized, columnFits, differ, spansOf, inside, apart, rowMost, columnsFit, fit}
 use Rattle.bindings.specs.Spans.{spanOf}
 use Rattle.bindings.specs.Sound.{column, span, Holds, Sound}

@@ -10,6 +10,7 @@ use Rattle.bindings.specs.declared.Column.{Column}
 use Rattle.lists.specs.Every.{every, pairwise}
 use Rattle.bindings.specs.Fit.{spansOf, columnsFit, fit}
 use Rattle.bindings.specs.Plain.{zeroBytes, flag, spot, value, property, column, columns, bindings}
+use Rattle.wire.specs.PropertySpec.{setOurs}
 
 -- a message: handle 1, the row width, _cbBindingDesc, _dummy, cColumns, columns
 pub message : ℕ → ℕ → ℕ → List ℕ → List ℕ
@@ -33,7 +34,7 @@ label =
     }
 
 pub whole-case : (bindings whole ≡ some (record { handle = 1; width = 24; columns = label ∷ [] })) × (fit 24 (label ∷ []) ≡ true)
-unfolding message ours whole label bindings columns column property value spot flag zeroBytes everyBelow number le fit columnsFit every pairwise spansOf
+unfolding message ours whole label bindings columns column property value spot flag zeroBytes setOurs everyBelow number le fit columnsFit every pairwise spansOf
 whole-case = (refl, refl)
 
 -- a label with its status alone, whose length flag stands at an odd place, then a key of four bytes
@@ -66,5 +67,5 @@ key =
 pub two-columns : (bindings (two 76 (0 ∷ 0 ∷ 0 ∷ [])) ≡ some (record { handle = 1; width = 24; columns = status-label ∷ key ∷ [] }))
     × (bindings (two 76 (0 ∷ 0 ∷ 1 ∷ [])) ≡ none) × (bindings (two 75 (0 ∷ 0 ∷ [])) ≡ none)
     × (fit 24 (status-label ∷ key ∷ []) ≡ true) × (fit 16 (status-label ∷ key ∷ []) ≡ false) × (fit 24 (key ∷ key ∷ []) ≡ false)
-unfolding message ours two status-label key bindings columns column property value spot flag zeroBytes everyBelow number le fit columnsFit every pairwise spansOf
+unfolding message ours two status-label key bindings columns column property value spot flag zeroBytes setOurs everyBelow number le fit columnsFit every pairwise spansOf
 two-columns = (refl, refl, refl, refl, refl, refl)

@@ -9,13 +9,10 @@ use Rattle.lists.specs.Below.{pick}
 use Rattle.wire.specs.Word.{numberAt}
 use Rattle.bindings.specs.declared.Column.{Column}
 use Rattle.bindings.specs.Column.{keptAll}
-use Rattle.wire.specs.Fields.{ofPlace, withRead, paddedOn}
+use Rattle.wire.specs.FieldPlaces.{ofPlace, withRead, paddedOn}
 use Rattle.bindings.specs.Wire.{ofColumn, columnOn}
 use Rattle.lists.specs.Options.{andThen}
-
--- the places of the body's fields, counted from the message's first byte
-abbrev pub handleAt : ℕ
-handleAt = 16
+use Rattle.wire.specs.Header.{handleAt}
 
 abbrev pub widthAt : ℕ
 widthAt = 20

@@ -4,10 +4,10 @@ use mathlib.Core.List.{List, [], _∷_}
 use Prim.Native.Nat.{ℕ, _+_}
 use lib.Dec.{leb, ltb, eqb}
 use lib.ListN.{length}
-use Rattle.lists.specs.Below.{pick, both, either}
+use Rattle.lists.specs.Below.{pick, both, either, within}
 use Rattle.lists.specs.Every.{every, pairwise}
 use Rattle.bindings.specs.Column.{columnsMost}
-use Rattle.wire.specs.Property.{within, known, cellSize, statusSize, lengthSize}
+use Rattle.wire.specs.Property.{known, cellSize, statusSize, lengthSize}
 use Rattle.bindings.specs.declared.Value.{Value}
 use Rattle.bindings.specs.declared.Column.{Column}
 use Rattle.bindings.specs.declared.Span.{Span}

@@ -1,19 +1,19 @@
 -- The message that sets bindings as a plain parser, which takes the bytes apart from the front. A reader has the bytes that are left
 -- and the place of the first of them, counted from the message's first byte; it gives what it read, and both for what follows.
-use mathlib.Core.Bool.{Bool}
 use mathlib.Core.List.{List, [], _∷_}
 use mathlib.Core.Option.{Option, none, some}
 use Prim.Native.Nat.{ℕ, zero, suc, _+_}
 use lib.Dec.{leb, eqb}
-use lib.ListN.{length, getD, take, drop}
-use Rattle.lists.specs.Below.{pick, everyBelow}
+use lib.ListN.{length, take, drop}
+use Rattle.lists.specs.Below.{pick}
 use Rattle.lists.specs.Options.{andThen}
-use Rattle.wire.specs.Checksum.{headerSize}
+use Rattle.wire.specs.Header.{headerSize}
 use Rattle.wire.specs.Word.{number}
 use Rattle.bindings.specs.declared.Value.{Value}
 use Rattle.bindings.specs.declared.Spot.{Spot}
 use Rattle.bindings.specs.declared.Column.{Column}
-use Rattle.wire.specs.Fields.{padCount, setSize, setFirst, numbered}
+use Rattle.wire.specs.Padding.{padding}
+use Rattle.wire.specs.PropertySpec.{setSize, setOurs, numbered}
 use Rattle.bindings.specs.Wire.{typeWidth}
 use Rattle.bindings.specs.Bindings.{Bindings, before}
 
@@ -34,8 +34,8 @@ zeroBytes zero at s = some (tt, at, s)
 zeroBytes (suc n) at [] = none
 zeroBytes (suc n) at (b ∷ s) = pick (eqb b 0) (zeroBytes n (at + 1) s) none
 
-abbrev pub padding : ℕ → ℕ → List ℕ → Parsed (Unit {0})
-padding unit at s = zeroBytes (padCount unit at) at s
+abbrev pub padded : ℕ → ℕ → List ℕ → Parsed (Unit {0})
+padded unit at s = zeroBytes (padding unit at) at s
 
 -- "a used flag other than 0 or 1" is malformed
 unfoldable pub flag : ℕ → List ℕ → Parsed ℕ
@@ -47,7 +47,7 @@ unfoldable pub spot : ℕ → List ℕ → Parsed Spot
 spot at s =
     andThen (flag at s) (λ (used, at, s).
     pick (eqb used 0) (some (record { used = 0; offset = 0 }, at, s))
-    (andThen (padding 2 at s) (λ (_, at, s). andThen (numeral 2 at s) (λ (offset, at, s). some (record { used = used; offset = offset }, at, s)))))
+    (andThen (padded 2 at s) (λ (_, at, s). andThen (numeral 2 at s) (λ (offset, at, s). some (record { used = used; offset = offset }, at, s)))))
 
 -- ValueUsed, ValueOffset, ValueSize
 unfoldable pub value : ℕ → List ℕ → Parsed Value
@@ -56,17 +56,13 @@ value at s =
     pick (eqb (p .used) 0) (some (record { used = 0; offset = 0; size = 0 }, at, s))
     (andThen (numeral 2 at s) (λ (size, at, s). some (record { used = p .used; offset = p .offset; size = size }, at, s))))
 
--- our set identifier: "the sixteen bytes 0x10, 0x11 and so on to 0x1F"
-abbrev pub isOurs : List ℕ → Bool
-isOurs set = everyBelow setSize (λ i. eqb (getD set i 0) (setFirst + i))
-
 -- CFullPropSpec: the set identifier, ulKind, PrSpec. "another ulKind is refusal 9 in a body"; a property of another set is an unknown
 -- one, and 0 is no known property
 unfoldable pub property : ℕ → List ℕ → Parsed ℕ
 property at s =
     andThen (bytes setSize at s) (λ (set, at, s).
     andThen (numeral 4 at s) (λ (kind, at, s).
-    andThen (numeral 4 at s) (λ (v, at, s). pick (eqb kind numbered) (some (pick (isOurs set) v 0, at, s)) none)))
+    andThen (numeral 4 at s) (λ (v, at, s). pick (eqb kind numbered) (some (pick (setOurs set 0) v 0, at, s)) none)))
 
 -- CTableColumn
 unfoldable pub column : ℕ → List ℕ → Parsed Column
@@ -82,7 +78,7 @@ column at s =
 unfoldable pub columns : ℕ → ℕ → List ℕ → Option (List Column)
 columns zero at [] = some []
 columns zero at (b ∷ s) = none
-columns (suc n) at s = andThen (padding 4 at s) (λ (_, at, s). andThen (column at s) (λ (c, at, s). before c (columns n at s)))
+columns (suc n) at s = andThen (padded 4 at s) (λ (_, at, s). andThen (column at s) (λ (c, at, s). before c (columns n at s)))
 
 -- header, _hCursor, _cbRow, _cbBindingDesc, _dummy, cColumns, columns: "_cbBindingDesc not the bytes after _dummy" is malformed, _dummy
 -- itself is not judged

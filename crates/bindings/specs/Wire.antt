@@ -8,7 +8,7 @@ use Rattle.lists.specs.Below.{pick}
 use Rattle.bindings.specs.declared.Value.{Value}
 use Rattle.bindings.specs.declared.Spot.{Spot}
 use Rattle.bindings.specs.declared.Column.{Column}
-use Rattle.wire.specs.Fields.{ofPlace, ofNumber, withRead, paddedOn, numberOn, flagOn, propertyOn}
+use Rattle.wire.specs.FieldPlaces.{ofPlace, ofNumber, withRead, paddedOn, numberOn, flagOn, propertyOn}
 use Rattle.bindings.specs.declared.SpotRead.{SpotRead}
 use Rattle.bindings.specs.declared.ValueRead.{ValueRead}
 use Rattle.bindings.specs.declared.ColumnRead.{ColumnRead}

@@ -1,4 +1,5 @@
-// The columns of bindings, when they are fit, and how a message has them. Definitions and laws, no code.
+// The columns of bindings: how a message has them, when they are fit, and the words that hold them (01, "Bindings").
+// Definitions, laws, types and constants; no function.
 
 // Where a column's value stands in a row: whether it is used, its place and its size.
 pub struct Value {
@@ -28,9 +29,12 @@ pub struct Span {
     pub size: u32,
 }
 
+// The words of a column, the most columns, the words that they take, and the most bytes of a row.
 pub const COLUMN_WORDS: usize = 9;
 
 pub const COLUMNS_MOST: u32 = 5;
+
+pub const ROOM_WORDS: usize = 45;
 
 pub const ROW_MOST: u32 = 4096;
 

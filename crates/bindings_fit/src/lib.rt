@@ -28,10 +28,10 @@ pub fn fit(records: &[u32], count: u32, width: u32) -> bool
     requires { ⌜ length (now records) ≡ roomWords ⌝ }
     ensures { λ r. ⌜ r ≡ fit width (columnsOf count (now (records .entry))) ⌝ }
 {
-    if !bindings_property::within(1, bindings::COLUMNS_MOST, count) {
+    if !lists_test::within(1, bindings::COLUMNS_MOST, count) {
         return false;
     }
-    if !bindings_property::within(1, bindings::ROW_MOST, width) {
+    if !lists_test::within(1, bindings::ROW_MOST, width) {
         return false;
     }
     columns_for(records, count as usize, width)

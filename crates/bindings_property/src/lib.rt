@@ -1,53 +1,10 @@
-// The properties and the types of their cells; whether the columns of bindings fit them, and none is bound twice.
+// Whether the columns of bindings have types and sizes that fit their properties, and no property is bound twice.
 ghost use mathlib.Core.Path.{_≡_};
 ghost use Prim.Native.Nat.{_+_, _≤_, _<_};
 ghost use lib.ListN.{length};
-ghost use Rattle.wire.specs.Property.{within, numberType, numberSize, cellSize};
 ghost use Rattle.lists.specs.Every.{every, pairwise};
 ghost use Rattle.bindings.specs.Column.{columnsMost, roomWords, columnAt, columnsFrom, columnsOf};
 ghost use Rattle.bindings.specs.Fit.{columnFits, unlike, differ};
-use wire::DEFAULT;
-use wire::KEY;
-use wire::VARIANT_SIZE;
-use wire::VARIANT_TYPE;
-
-// Whether a number is one of those from low to high.
-pub fn within(low: u32, high: u32, number: u32) -> bool
-    ensures { λ r. ⌜ r ≡ within low high number ⌝ }
-{
-    if number < low {
-        return false;
-    }
-    number <= high
-}
-
-pub fn number_type(property: u32) -> u32
-    ensures { λ r. ⌜ r ≡ numberType property ⌝ }
-{
-    0x0013
-}
-
-pub fn number_size(property: u32) -> u32
-    ensures { λ r. ⌜ r ≡ numberSize property ⌝ }
-{
-    4
-}
-
-// The size of a cell of a type on a property, 0 for a type that the property does not have.
-pub fn cell_size(property: u32, vtype: u32) -> u32
-    ensures { λ r. ⌜ r ≡ cellSize property vtype ⌝ }
-{
-    if vtype == VARIANT_TYPE {
-        return VARIANT_SIZE;
-    }
-    if within(KEY, DEFAULT, property) {
-        if vtype == number_type(property) {
-            return number_size(property);
-        }
-        return 0;
-    }
-    0
-}
 
 // The type and size of the k-th column, against its property.
 fn column_fits(records: &[u32], index: usize) -> bool
@@ -59,10 +16,10 @@ fn column_fits(records: &[u32], index: usize) -> bool
     let vtype = records[at + 1];
     let used = records[at + 2];
     let given = records[at + 4];
-    if !within(wire::KEY, wire::NOTE, property) {
+    if !lists_test::within(wire::KEY, wire::NOTE, property) {
         return false;
     }
-    let size = cell_size(property, vtype);
+    let size = wire_property::cell_size(property, vtype);
     if size == 0 {
         return false;
     }

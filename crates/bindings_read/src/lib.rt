@@ -94,8 +94,6 @@ pub fn column_on(message: &[u8], at: usize) -> ColumnRead
 }
 
 // The places of the body's fields.
-const HANDLE_AT: usize = 16;
-
 const WIDTH_AT: usize = 20;
 
 const DESCRIBED_AT: usize = 24;
@@ -158,7 +156,7 @@ pub fn read(message: &[u8], records: &mut [u32]) -> BindingsRead
         bindings_record::clear(records);
         return refused();
     }
-    let handle = wire_word::word(message, HANDLE_AT);
+    let handle = wire_word::word(message, wire::HANDLE_AT);
     let width = wire_word::word(message, WIDTH_AT);
     BindingsRead {
         malformed: false,

@@ -16,6 +16,7 @@ use Rattle.table.specs.Well.{tableWell, tableBelow}
 use Rattle.refusal.specs.Refusal.{firstCause}
 use Rattle.message.specs.Message.{SeatOutcome, seatMessage}
 use Rattle.query.specs.Open.{freeHandle, openCauses, openedOn}
+use Rattle.wire.specs.Header.{messageMost}
 
 -- what a call reads beside the table: the rows of the catalogue, none where it is malformed
 pub record Sources : Type 0 where
@@ -79,7 +80,7 @@ connectStep src t seat version =
 
 -- a message: 4 "reply buffer under 16,384 bytes", 5 "message under 16 or over 16,384 bytes", and then what its seat says
 abbrev pub sizing : List ℕ → ℕ → List (ℕ × Bool)
-sizing m room = (4, ltb room 16384) ∷ (5, not (messageSized m)) ∷ []
+sizing m room = (4, ltb room messageMost) ∷ (5, not (messageSized m)) ∷ []
 
 -- what a message did to its seat, in the table
 abbrev pub onSeat : List ℕ → ℕ → SeatOutcome → Outcome

@@ -8,7 +8,7 @@ pub fn connect(table: &mut [u32], catalogue: &[u8], seat: Seat, version: u32) ->
     ensures { λ r. ⌜ Keeps (connectStep (sourcesOf (now (catalogue .entry))) (now (table .entry)) (seat .0) version) r 0 0 (now (table .exit)) [] [] ⌝ }
 {
     let k = seat.0;
-    let mut places = [0u32; 1024];
+    let mut places = [0u32; catalogue::ROWS_MOST];
     let judged = call_judge::judge(table, catalogue, k, &mut places);
     let refusal = judged.refusal;
     if refusal != 0 {

@@ -3,10 +3,15 @@ ghost use Rattle.call.specs.Judgement.{Judgement};
 use call::Judged;
 
 // Refusals 1 to 3. The place of each row is noted.
-pub fn judge(table: &[u32], bytes: &[u8], seat: u32, places: &mut [u32; 1024]) -> Judged
+pub fn judge(
+    table: &[u32],
+    bytes: &[u8],
+    seat: u32,
+    places: &mut [u32; catalogue::ROWS_MOST],
+) -> Judged
     ensures { λ r. ⌜ Judgement (now (table .entry)) (now (bytes .entry)) seat r (now (places .entry)) (now (places .exit)) ⌝ }
 {
-    if 7 < seat {
+    if table::SEAT_MOST < seat {
         return Judged {
             refusal: 1,
             rows: 0,

@@ -15,25 +15,25 @@ pub fn message(
     ensures { λ r. ⌜ Keeps (messageStep (sourcesOf (now (catalogue .entry))) (now (table .entry)) (seat .0) (now (message .entry)) (length (now (reply .entry)))) (r .refusal) 0 (r .count) (now (table .exit)) (now (reply .entry)) (now (reply .exit)) ⌝ }
 {
     let k = seat.0;
-    let mut places = [0u32; 1024];
+    let mut places = [0u32; catalogue::ROWS_MOST];
     let judged = call_judge::judge(table, catalogue, k, &mut places);
     let refusal = judged.refusal;
     if refusal != 0 {
         return Answered { refusal, count: 0 };
     }
-    if reply.len() < 16384 {
+    if reply.len() < wire::MESSAGE_MOST {
         return Answered {
             refusal: 4,
             count: 0,
         };
     }
-    if message.len() < 16 {
+    if message.len() < wire::HEADER_SIZE {
         return Answered {
             refusal: 5,
             count: 0,
         };
     }
-    if 16384 < message.len() {
+    if wire::MESSAGE_MOST < message.len() {
         return Answered {
             refusal: 5,
             count: 0,

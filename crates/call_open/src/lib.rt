@@ -10,7 +10,7 @@ pub fn open(table: &mut [u32], catalogue: &[u8], seat: Seat, tree: &[u8]) -> Ope
     ensures { λ r. ⌜ Keeps (openStep (sourcesOf (now (catalogue .entry))) (now (table .entry)) (seat .0) (now (tree .entry))) (r .refusal) (r .handle .0) 0 (now (table .exit)) [] [] ⌝ }
 {
     let k = seat.0;
-    let mut places = [0u32; 1024];
+    let mut places = [0u32; catalogue::ROWS_MOST];
     let judged = call_judge::judge(table, catalogue, k, &mut places);
     let refusal = judged.refusal;
     let rows = judged.rows;

@@ -5,28 +5,27 @@ use mathlib.Core.List.{List}
 use Prim.Native.Nat.{ℕ, _≤_, _<_}
 use borrow.Author.Tests.{le-leb, lt-leb}
 use lib.ListN.{length}
-use lib.Seq.{sets}
 use Rattle.catalogue.specs.Reading.{readingAt}
 use Rattle.catalogue.specs.declared.Reading.the-variants.{Number, Malformed}
 use Rattle.catalogue.specs.Limits.{rowsMost, bytesMost}
-use Rattle.catalogue.specs.Places.{rowsEnd, placesFrom, malformed, counted, checked, places, noted}
+use Rattle.catalogue.specs.Places.{malformed, counted, checked, places}
 use Rattle.catalogue.specs.declared.Checked.{Checked}
+use Rattle.catalogue.specs.CheckTold.{ChecksRows, Checks}
 
--- the answer of a check, and the list that it leaves of the one that it was lent
-pub record Answer (s held : List ℕ) (answer : Checked) (left : List ℕ) : Type 0 where
-  pub told : answer ≡ checked s
-  pub left-is : left ≡ noted s held
-
-pub too-long : (s held : List ℕ) → bytesMost < length s → Answer s held malformed held
+pub too-long : (s held : List ℕ) → bytesMost < length s → Checks s held malformed held
 unfolding checked places
-too-long s held h = record { told = rw (lt-leb (length s) bytesMost h); left-is = rw (lt-leb (length s) bytesMost h) }
+too-long s held h = record { answered = rw (lt-leb (length s) bytesMost h); placed = rw (lt-leb (length s) bytesMost h) }
 
-pub no-count : (s held : List ℕ) → length s ≤ bytesMost → readingAt rowsMost s 0 ≡ Malformed → Answer s held malformed held
+pub no-count : (s held : List ℕ) → length s ≤ bytesMost → readingAt rowsMost s 0 ≡ Malformed → Checks s held malformed held
 unfolding checked places
-no-count s held h e = record { told = rw (le-leb (length s) bytesMost h, e); left-is = rw (le-leb (length s) bytesMost h, e) }
+no-count s held h e = record { answered = rw (le-leb (length s) bytesMost h, e); placed = rw (le-leb (length s) bytesMost h, e) }
 
 pub by-rows : (s held : List ℕ) (n at : ℕ) (well : Bool) (left : List ℕ) → length s ≤ bytesMost → readingAt rowsMost s 0 ≡ Number n at
-    → well ≡ rowsEnd n s at → left ≡ sets held 0 (placesFrom n s at) → Answer s held (counted n well) left
+    → ChecksRows n s at held well left → Checks s held (counted n well) left
 unfolding checked places
-by-rows s held n at well left h e w l =
-    record { told = rw (le-leb (length s) bytesMost h, e, w); left-is = rw (le-leb (length s) bytesMost h, e, l) }
+by-rows s held n at well left h e c =
+    record { answered = rw (le-leb (length s) bytesMost h, e, c .ended); placed = rw (le-leb (length s) bytesMost h, e, c .placed) }
+
+-- any two outcomes that the check's contract allows agree
+pub checks-once : (s held : List ℕ) (a b : Checked) (x y : List ℕ) → Checks s held a x → Checks s held b y → (a ≡ b) × (x ≡ y)
+checks-once s held a b x y p q = (cc, cc)

@@ -5,3 +5,4 @@ pub mod Plain
 pub mod Writer
 pub mod Places
 pub mod Seen
+pub mod CheckTold

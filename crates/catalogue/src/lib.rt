@@ -1,16 +1,22 @@
-// The option catalogue: its numbers, texts and rows. Definitions and laws, no code.
+// The option catalogue: its numbers, texts and rows, the parser, the writer, and the same by places (01, "The option catalogue").
+// Definitions, laws, types and constants; no function.
+
+// The limits: of a key, of a language and a default, of the number that a text begins with, of the rows, and of all bytes.
+pub const KEY_MOST: u64 = 0xffff_ffff;
+
+pub const NUMBER_MOST: u64 = 0xffff_ffff;
+
+pub const SIZE_MOST: u64 = 2049;
+
+pub const ROWS_MOST: usize = 1024;
+
+pub const BYTES_MOST: usize = 0x10_0000;
 
 // A number with the place after it.
 pub enum Reading {
     Number(u64, usize),
     Malformed,
 }
-
-pub const KEY_MOST: u64 = 0xffff_ffff;
-
-pub const NUMBER_MOST: u64 = 0xffff_ffff;
-
-pub const SIZE_MOST: u64 = 2049;
 
 // A text: 0 for absent, else its count of units plus one; and the place of its first unit.
 pub struct Text {

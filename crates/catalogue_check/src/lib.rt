@@ -2,21 +2,21 @@
 ghost use mathlib.Core.Path.{_≡_};
 ghost use Prim.Native.Nat.{_≤_};
 ghost use lib.ListN.{length};
-ghost use lib.Seq.{sets};
 ghost use Rattle.catalogue.specs.Limits.{rowsMost, bytesMost};
-ghost use Rattle.catalogue.specs.Places.{rowsEnd, placesFrom, checked, noted};
+ghost use Rattle.catalogue.specs.Plain.{catalogue, refusalOf};
+ghost use Rattle.catalogue.specs.CheckTold.{ChecksRows, Checks};
 use catalogue::Checked;
 use catalogue::Reading;
 
-pub const ROWS_MOST: u64 = 1024;
-
-const BYTES_MOST: usize = 0x10_0000;
-
 // The rows from a place on, each place noted, up to the end of the bytes.
-fn check_rows(catalogue: &[u8], count: u64, first: usize, places: &mut [u32; 1024]) -> bool
+fn check_rows(
+    catalogue: &[u8],
+    count: u64,
+    first: usize,
+    places: &mut [u32; catalogue::ROWS_MOST],
+) -> bool
     requires { ⌜ (length (now catalogue) ≤ bytesMost) × (first ≤ length (now catalogue)) × (count ≤ rowsMost) ⌝ }
-    ensures { λ r. ⌜ r ≡ rowsEnd count (now (catalogue .entry)) first ⌝ }
-    ensures { λ r. ⌜ now (places .exit) ≡ sets (now (places .entry)) 0 (placesFrom count (now (catalogue .entry)) first) ⌝ }
+    ensures { λ r. ⌜ ChecksRows count (now (catalogue .entry)) first (now (places .entry)) r (now (places .exit)) ⌝ }
 {
     let mut left = count;
     let mut at = first;
@@ -35,30 +35,32 @@ fn check_rows(catalogue: &[u8], count: u64, first: usize, places: &mut [u32; 102
 }
 
 // The whole catalogue: refusal 3 or 0 and the row count; the place of each row goes into the lent array.
-pub fn check(catalogue: &[u8], places: &mut [u32; 1024]) -> Checked
-    ensures { λ r. ⌜ r ≡ checked (now (catalogue .entry)) ⌝ }
-    ensures { λ r. ⌜ now (places .exit) ≡ noted (now (catalogue .entry)) (now (places .entry)) ⌝ }
+pub fn check(catalogue: &[u8], places: &mut [u32; catalogue::ROWS_MOST]) -> Checked
+    ensures { λ r. ⌜ Checks (now (catalogue .entry)) (now (places .entry)) r (now (places .exit)) ⌝ }
 {
-    if BYTES_MOST < catalogue.len() {
-        return Checked {
-            refusal: 3,
-            rows: 0,
-        };
-    }
-    let Reading::Number(count, first) = catalogue_number::read(catalogue, 0, ROWS_MOST) else {
-        return Checked {
-            refusal: 3,
-            rows: 0,
-        };
-    };
-    if check_rows(catalogue, count, first, places) {
-        return Checked {
-            refusal: 0,
-            rows: count as u32,
-        };
-    }
-    Checked {
+    let malformed = Checked {
         refusal: 3,
         rows: 0,
+    };
+    if catalogue::BYTES_MOST < catalogue.len() {
+        return malformed;
     }
+    let most = catalogue::ROWS_MOST as u64;
+    let Reading::Number(count, first) = catalogue_number::read(catalogue, 0, most) else {
+        return malformed;
+    };
+    if !check_rows(catalogue, count, first, places) {
+        return malformed;
+    }
+    let rows = count as u32;
+    Checked { refusal: 0, rows }
+}
+
+// Its refusal alone, for those who want no row.
+pub fn refusal_of(bytes: &[u8]) -> u32
+    ensures { λ r. ⌜ r ≡ refusalOf (catalogue (now (bytes .entry))) ⌝ }
+{
+    let mut places = [0u32; catalogue::ROWS_MOST];
+    let checked = check(bytes, &mut places);
+    checked.refusal
 }

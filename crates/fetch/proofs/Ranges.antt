@@ -12,7 +12,8 @@ use Rattle.lists.specs.Below.{both}
 use Rattle.wire.specs.Word.{numberAt}
 use Rattle.lists.proofs.Below.{by-test, both-left, both-right}
 use Rattle.lists.proofs.Options.{none≢some, some-is}
-use Rattle.fetch.specs.Request.{handleAt, leastSize, reservedAt, sizeAt, baseAt, backwardAt, seekAt, seekSizeAt, sized, inRange, seekFits, asked, wellFormed, request, Sound}
+use Rattle.fetch.specs.Request.{leastSize, reservedAt, sizeAt, baseAt, backwardAt, seekAt, seekSizeAt, sized, inRange, seekFits, asked, wellFormed, request, Sound}
+use Rattle.wire.specs.Header.{handleAt}
 use Rattle.fetch.specs.declared.Request.{Request}
 use Rattle.fetch.specs.declared.Asking.the-variants.{Asked, Malformed}
 use Rattle.fetch.specs.Asking.{asking}

@@ -9,10 +9,7 @@ use lib.ListN.{length}
 use Rattle.lists.specs.Below.{pick, both}
 use Rattle.wire.specs.Word.{numberAt}
 use Rattle.fetch.specs.declared.Request.{Request}
-
--- _hCursor
-abbrev pub handleAt : ℕ
-handleAt = 16
+use Rattle.wire.specs.Header.{handleAt, messageMost}
 
 -- _cRowsToTransfer
 abbrev pub askedAt : ℕ
@@ -60,7 +57,7 @@ leastSize = 56
 
 -- "_cbReadBuffer (call it B) not a multiple of 512 from 512 to 16,384"
 abbrev pub sized : ℕ → Bool
-sized size = both (both (leb 512 size) (leb size 16384)) (eqb (size % 512) 0)
+sized size = both (both (leb 512 size) (leb size messageMost)) (eqb (size % 512) 0)
 
 -- "_cbReserved not 20 to 64; _cbReadBuffer ..; _ulClientBase + B above 4,294,967,295; _fBwdFetch above 1"
 abbrev pub inRange : ℕ → ℕ → ℕ → ℕ → Bool
@@ -103,5 +100,5 @@ pub record Sound (q : Request) : Type 0 where
   pub from-least : 32 ≤ q .from
   pub from-most : q .from ≤ 76
   pub least : 512 ≤ q .size
-  pub most : q .size ≤ 16384
+  pub most : q .size ≤ messageMost
   pub reach : q .base + q .size ≤ 4294967295

@@ -7,8 +7,6 @@ ghost use Rattle.fetch.specs.Asking.{asking};
 use fetch::Asking;
 use fetch::Request;
 
-const HANDLE_AT: usize = 16;
-
 const ASKED_AT: usize = 20;
 
 const WIDTH_AT: usize = 24;
@@ -48,7 +46,8 @@ fn in_range(reserved: u32, size: u32, base: u32, backward: u32) -> bool
     if size < 512 {
         return false;
     }
-    if 16384 < size {
+    let most = wire::MESSAGE_MOST as u32;
+    if most < size {
         return false;
     }
     if size % 512 != 0 {
@@ -79,7 +78,7 @@ fn values(message: &[u8], reserved: u32) -> Request
     ensures { λ r. ⌜ r ≡ asked reserved (now (message .entry)) ⌝ }
 {
     Request {
-        handle: wire_word::word(message, HANDLE_AT),
+        handle: wire_word::word(message, wire::HANDLE_AT),
         asked: wire_word::word(message, ASKED_AT),
         width: wire_word::word(message, WIDTH_AT),
         from: reserved + 12,

@@ -16,7 +16,8 @@ use Rattle.catalogue.specs.Plain.{Row}
 use Rattle.bindings.specs.Column.{wordsOf}
 use Rattle.bindings.specs.Fit.{fit}
 use Rattle.bindings.specs.declared.Column.{Column}
-use Rattle.bindings.specs.Bindings.{Bindings, columnsOn, bindingsOn, handleAt, widthAt, describedAt, countAt, columnsAt}
+use Rattle.bindings.specs.Bindings.{Bindings, columnsOn, bindingsOn, widthAt, describedAt, countAt, columnsAt}
+use Rattle.wire.specs.Header.{handleAt}
 use Rattle.lists.specs.Options.{andThen}
 use Rattle.bindings.specs.Plain.{bindings}
 use Rattle.bindings.specs.Told.{answer, wordsRead, Told}

@@ -11,7 +11,7 @@ use lib.ListN.{length}
 use Rattle.lists.specs.Below.{pick}
 use Rattle.lists.proofs.Below.{by-test, both-true}
 use Rattle.lists.proofs.Options.{none≢some, some-is, then-inv}
-use Rattle.wire.specs.Checksum.{headerSize}
+use Rattle.wire.specs.Header.{headerSize}
 use Rattle.lists.specs.Every.{every}
 use Rattle.bindings.specs.declared.Value.{Value}
 use Rattle.bindings.specs.declared.Spot.{Spot}
@@ -19,7 +19,7 @@ use Rattle.bindings.specs.declared.Column.{Column}
 use Rattle.bindings.specs.Bindings.{Bindings, before}
 use Rattle.lists.specs.Options.{andThen}
 use Rattle.bindings.specs.Wire.{typeWidth}
-use Rattle.bindings.specs.Plain.{bytes, numeral, padding, flag, spot, value, property, column, columns, bindings}
+use Rattle.bindings.specs.Plain.{bytes, numeral, padded, flag, spot, value, property, column, columns, bindings}
 use Rattle.table.specs.Well.{flagged, tidy}
 
 -- a flag that was read is 0 or 1
@@ -49,14 +49,14 @@ spot-tidy at s r e =
   where
     go : (used at : ℕ) (s : List ℕ) → used ≤ 1
         → pick (eqb used 0) (some (record { used = 0; offset = 0 }, at, s))
-        (andThen (padding 2 at s) (λ (_, at, s). andThen (numeral 2 at s) (λ (offset, at, s). some (record { used = used; offset = offset }, at, s))))
+        (andThen (padded 2 at s) (λ (_, at, s). andThen (numeral 2 at s) (λ (offset, at, s). some (record { used = used; offset = offset }, at, s))))
         ≡ some r
         → SpotTidy (r .0)
     go used at s h w =
         by-test (eqb used 0)
         (λ q. subst (λ (p : Spot × ℕ × List ℕ). SpotTidy (p .0)) (some-is (rw q at w)) (refl, omega arith))
         (λ q.
-        let p = then-inv (padding 2 at s) _ r (rw q at w) in
+        let p = then-inv (padded 2 at s) _ r (rw q at w) in
         let n = then-inv (numeral 2 (p .0 .1) (p .0 .2)) _ r (p .2) in
         subst (λ (x : Spot × ℕ × List ℕ). SpotTidy (x .0)) (some-is (n .2)) (used-one used (n .0 .0) h q, h))
 
@@ -96,7 +96,7 @@ unfolding columns every
 columns-tidy zero at [] found e = subst (λ (x : List Column). every tidy x ≡ true) (some-is e) refl
 columns-tidy zero at (b ∷ s) found e = absurd (none≢some e)
 columns-tidy (suc n) at s found e =
-    let p = then-inv (padding 4 at s) _ found e in
+    let p = then-inv (padded 4 at s) _ found e in
     let c = then-inv (column (p .0 .1) (p .0 .2)) _ found (p .2) in
     go (c .0 .0) (columns n (c .0 .1) (c .0 .2)) (column-tidy (p .0 .1) (p .0 .2) (c .0) (c .1)) (columns-tidy n (c .0 .1) (c .0 .2)) (c .2)
   where

@@ -12,14 +12,15 @@ use Rattle.fetch.specs.Ready.{Placed}
 use Rattle.refusal.specs.Refusal.{firstCause}
 use Rattle.message.specs.Message.{SeatOutcome, msgOf, kindOf, gateCauses, seatMessage}
 use Rattle.message.specs.declared.Answered.{Answered}
+use Rattle.wire.specs.Header.{headerSize, messageMost}
 
 -- a seat's block that passes, a message and a buffer that 4 and 5 let pass
 pub record Given (b m reply : List ℕ) : Type 0 where
   pub size : length b ≡ seatSize
   pub well : seatWell b ≡ true
-  pub least : 16 ≤ length m
-  pub most : length m ≤ 16384
-  pub room : 16384 ≤ length reply
+  pub least : headerSize ≤ length m
+  pub most : length m ≤ messageMost
+  pub room : messageMost ≤ length reply
 
 -- and none of 6 to 8 applies to a message of a kind
 pub record Admitted (b m reply : List ℕ) (msg kind : ℕ) : Type 0 where

@@ -23,11 +23,12 @@ use Rattle.fetch.specs.Asking.{asking, refusalOf}
 use Rattle.fetch.specs.declared.Request.{Request}
 use Rattle.fetch.specs.Fetch.{fetchCauses, fetchReply, fetched}
 use Rattle.table.specs.Open.{isOpen, stillOpen}
+use Rattle.wire.specs.Header.{headerSize, msgAt, checksumAt, disconnectMsg, freeCursorMsg, getRowsMsg, setBindingsMsg, handleAt}
 
 -- the messages served, each its number and whether its checksum is tested: "disconnect 0xC9, free cursor 0xCB, get rows 0xCC,
 -- set bindings 0xD0", "the checksum of get rows and set bindings is tested (..); other messages are not"
 abbrev pub messageTable : List ℕ
-messageTable = 0xC9 ∷ 0 ∷ 0xCB ∷ 0 ∷ 0xCC ∷ 1 ∷ 0xD0 ∷ 1 ∷ []
+messageTable = disconnectMsg ∷ 0 ∷ freeCursorMsg ∷ 0 ∷ getRowsMsg ∷ 1 ∷ setBindingsMsg ∷ 1 ∷ []
 
 abbrev pub kinds : ℕ
 kinds = 4
@@ -48,14 +49,14 @@ tested kind = eqb (getD messageTable (2 * kind + 1) 0) 1
 
 -- the words of a request that are judged: "A request's _status and _ulReserved2 aren't judged"
 abbrev pub msgOf : List ℕ → ℕ
-msgOf m = numberAt 4 m 0
+msgOf m = numberAt 4 m msgAt
 
 abbrev pub handleOf : List ℕ → ℕ
-handleOf m = numberAt 4 m 16
+handleOf m = numberAt 4 m handleAt
 
 -- "For a client version of 8 or above the checksum .. is tested"
 abbrev pub checksumWrong : ℕ → ℕ → List ℕ → Bool
-checksumWrong version kind m = both (both (leb 8 version) (tested kind)) (not (eqb (numberAt 4 m 8) (checksum m)))
+checksumWrong version kind m = both (both (leb 8 version) (tested kind)) (not (eqb (numberAt 4 m checksumAt) (checksum m)))
 
 -- "handle not open on this seat"
 abbrev pub notOpen : Seat → List ℕ → ℕ × Bool
@@ -84,8 +85,8 @@ rowsCauses rows (some c) (some q) = fetchCauses rows c q
 -- 9 and after it, by kind: "Disconnect (empty body)", "Free cursor has a body of exactly 4 bytes", get rows, set bindings
 abbrev pub bodyCauses : List Row → ℕ → Seat → List ℕ → List (ℕ × Bool)
 bodyCauses rows kind s m =
-    pick (eqb kind 0) ((9, not (eqb (length m) 16)) ∷ [])
-    (pick (eqb kind 1) ((9, not (eqb (length m) 20)) ∷ notOpen s m ∷ [])
+    pick (eqb kind 0) ((9, not (eqb (length m) headerSize)) ∷ [])
+    (pick (eqb kind 1) ((9, not (eqb (length m) (headerSize + 4))) ∷ notOpen s m ∷ [])
     (pick (eqb kind 2) ((9, unasked (request m)) ∷ notOpen s m ∷ rowsCauses rows (cursorIn s (handleOf m)) (request m))
     ((9, unread (bindings m)) ∷ notOpen s m ∷ (12, unfit (bindings m)) ∷ [])))
 

@@ -24,7 +24,7 @@ fn bind(seat: &mut [u32], message: &[u8], reply: &mut [u8], msg: u32) -> Answere
     requires { ⌜ Admitted (now seat) (now message) (now reply) msg 3 ⌝ }
     ensures { λ r. ⌜ AnswersAny (now (seat .entry)) (now (message .entry)) r (now (seat .exit)) (now (reply .entry)) (now (reply .exit)) ⌝ }
 {
-    let mut records = [0u32; 45];
+    let mut records = [0u32; bindings::ROOM_WORDS];
     let read = bindings_read::read(message, &mut records);
     let malformed = read.malformed;
     let handle = read.handle;
@@ -96,13 +96,13 @@ pub fn answer(
     if refusal != 0 {
         return message_gate::refuse(reply, msg, refusal);
     }
-    if kind == 0 {
+    if kind == message::DISCONNECTS {
         return message_close::disconnect(seat, message, reply, msg);
     }
-    if kind == 1 {
+    if kind == message::FREES {
         return message_close::free(seat, message, reply, msg);
     }
-    if kind == 2 {
+    if kind == message::FETCHES {
         return fetch(seat, message, catalogue, places, reply, msg);
     }
     bind(seat, message, reply, msg)

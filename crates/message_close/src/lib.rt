@@ -8,6 +8,9 @@ ghost use Rattle.table.specs.Seat.{cursorBlock};
 ghost use Rattle.message.specs.Answers.{Admitted, AnswersAny};
 use message::Answered;
 
+// The header and one word: a message that frees a cursor, and its reply.
+const FREE_SIZE: usize = wire::HEADER_SIZE + 4;
+
 // Closes the cursor of a handle.
 fn close(seat: &mut [u32], handle: u32)
     requires { ⌜ length (now seat) ≡ seatSize ⌝ }
@@ -23,7 +26,7 @@ pub fn disconnect(seat: &mut [u32], message: &[u8], reply: &mut [u8], msg: u32) 
     requires { ⌜ Admitted (now seat) (now message) (now reply) msg 0 ⌝ }
     ensures { λ r. ⌜ AnswersAny (now (seat .entry)) (now (message .entry)) r (now (seat .exit)) (now (reply .entry)) (now (reply .exit)) ⌝ }
 {
-    if message.len() != 16 {
+    if message.len() != wire::HEADER_SIZE {
         return message_gate::refuse(reply, msg, 9);
     }
     table_write::clear(seat);
@@ -38,17 +41,17 @@ pub fn free(seat: &mut [u32], message: &[u8], reply: &mut [u8], msg: u32) -> Ans
     requires { ⌜ Admitted (now seat) (now message) (now reply) msg 1 ⌝ }
     ensures { λ r. ⌜ AnswersAny (now (seat .entry)) (now (message .entry)) r (now (seat .exit)) (now (reply .entry)) (now (reply .exit)) ⌝ }
 {
-    if message.len() != 20 {
+    if message.len() != FREE_SIZE {
         return message_gate::refuse(reply, msg, 9);
     }
-    let handle = wire_word::word(message, 16);
+    let handle = wire_word::word(message, wire::HANDLE_AT);
     if !table_handle::is_open(seat, handle) {
         return message_gate::refuse(reply, msg, 10);
     }
     close(seat, handle);
     let left = table_handle::open_count(seat);
     wire_lay_word::lay_header(reply, msg, 0);
-    wire_lay_word::lay_word(reply, 16, left as u64);
+    wire_lay_word::lay_word(reply, wire::HEADER_SIZE, left as u64);
     Answered {
         refusal: 0,
         count: 20,

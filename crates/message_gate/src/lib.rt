@@ -3,6 +3,7 @@ ghost use mathlib.Core.Path.{_≡_};
 ghost use Prim.Native.Nat.{_≤_, _<_};
 ghost use lib.ListN.{length};
 ghost use Rattle.refusal.specs.Refusal.{statusOf, firstCause};
+ghost use Rattle.wire.specs.Header.{headerSize, messageMost};
 ghost use Rattle.wire.specs.Laid.{lay, fourWords};
 ghost use Rattle.table.specs.Layout.{seatSize};
 ghost use Rattle.table.specs.Seat.{seatOf};
@@ -43,16 +44,23 @@ pub fn status(refusal: u32) -> u32
 }
 
 // The messages served: each its number, and 1 where its checksum is tested.
-const MESSAGES: [u32; 8] = [0xC9, 0, 0xCB, 0, 0xCC, 1, 0xD0, 1];
-
-const KINDS: usize = 4;
+const MESSAGES: [u32; 8] = [
+    wire::DISCONNECT,
+    0,
+    wire::FREE_CURSOR,
+    0,
+    wire::GET_ROWS,
+    1,
+    wire::SET_BINDINGS,
+    1,
+];
 
 // The kind of a message: its place among those served, else their count.
 pub fn kind(msg: u32) -> usize
     ensures { λ r. ⌜ r ≡ kindOf msg ⌝ }
 {
     let mut k = 0;
-    while k < KINDS {
+    while k < message::KINDS {
         if MESSAGES[2 * k] == msg {
             return k;
         }
@@ -70,22 +78,22 @@ fn tested(kind: usize) -> bool
 
 // Refusals 6 to 8.
 pub fn gate(seat: &[u32], message: &[u8], kind: usize) -> u32
-    requires { ⌜ (length (now seat) ≡ seatSize) × (16 ≤ length (now message)) × (length (now message) ≤ 16384) × (kind ≡ kindOf (msgOf (now message))) ⌝ }
+    requires { ⌜ (length (now seat) ≡ seatSize) × (headerSize ≤ length (now message)) × (length (now message) ≤ messageMost) × (kind ≡ kindOf (msgOf (now message))) ⌝ }
     ensures { λ r. ⌜ r ≡ firstCause (gateCauses (seatOf (now (seat .entry))) (now (message .entry))) ⌝ }
 {
-    if KINDS <= kind {
+    if message::KINDS <= kind {
         return 6;
     }
-    if seat[0] == 0 {
+    if seat[table::CONNECTED] == 0 {
         return 7;
     }
-    if seat[1] < 8 {
+    if seat[table::VERSION] < message::CHECKED_FROM {
         return 0;
     }
     if !tested(kind) {
         return 0;
     }
-    let told = wire_word::word(message, 8) as u64;
+    let told = wire_word::word(message, wire::CHECKSUM_AT) as u64;
     if told == wire_checksum::checksum(message) {
         return 0;
     }
@@ -94,7 +102,7 @@ pub fn gate(seat: &[u32], message: &[u8], kind: usize) -> u32
 
 // A refusal from 6 on: the header with its status.
 pub fn refuse(reply: &mut [u8], msg: u32, refusal: u32) -> Answered
-    requires { ⌜ (16 ≤ length (now reply)) × (refusal < 17) ⌝ }
+    requires { ⌜ (headerSize ≤ length (now reply)) × (refusal < 17) ⌝ }
     ensures { λ r. ⌜ (r ≡ record { refusal = refusal; count = 16 }) × (now (reply .exit) ≡ lay (now (reply .entry)) 0 (fourWords msg (statusOf refusal) 0 0)) ⌝ }
 {
     let sent = status(refusal);

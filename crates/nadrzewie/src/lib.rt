@@ -11,9 +11,7 @@ ghost use Rattle.call.specs.Step.{sourcesOf, connectStep, openStep, messageStep
 pub extern "C" fn nadrzewie_catalogue_check(bytes: &[u8]) -> u32
     ensures { λ r. ⌜ r ≡ refusalOf (catalogue (now (bytes .entry))) ⌝ }
 {
-    let mut places = [0u32; 1024];
-    let checked = catalogue_check::check(bytes, &mut places);
-    checked.refusal
+    catalogue_check::refusal_of(bytes)
 }
 
 // The checksum of a message, or 4,294,967,296 for a message under 16 or over 16,384 bytes.

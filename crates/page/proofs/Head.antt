@@ -21,7 +21,8 @@ use Rattle.page.specs.declared.FieldAt.the-variants.{NumberIs, TextIs, A
 use Rattle.page.proofs.Fields.{field-seen, field-stands, seen-stand, seen-row}
 use Rattle.page.proofs.Units.{units-double}
 use Rattle.page.specs.Rows.{allBlocks}
-use Rattle.page.specs.Page.{rowsMessage, page}
+use Rattle.page.specs.Page.{page}
+use Rattle.wire.specs.Header.{getRowsMsg}
 use Rattle.page.specs.Reads.{Held, HeadReads}
 use Rattle.page.proofs.Inner.{first-word, other-words}
 use Rattle.page.proofs.Reply.{page-reads}
@@ -56,7 +57,7 @@ module _ (size from width base status : ℕ) (columns : List Column) (rows : Lis
   head-reads hs hr =
       let u : List ℕ = page size from width base status columns rows t in
       let all = page-reads size from width base status columns rows fits head room t long in
-      let a = four-read u (length (fourWords rowsMessage status 0 0)) 0 rowsMessage status 0 0 (omega arith) hs (omega arith) (omega arith) (all .0) in
+      let a = four-read u (length (fourWords getRowsMsg status 0 0)) 0 getRowsMsg status 0 0 (omega arith) hs (omega arith) (omega arith) (all .0) in
       let b = four-read u (length (fourWords (length rows) 1 0 0)) 16 (length rows) 1 0 0 hr (omega arith) (omega arith) (omega arith) (all .1 .0) in
       record {
         message = a .0;

@@ -5,11 +5,11 @@ use mathlib.Core.List.{List, _∷_}
 use Prim.Native.Nat.{ℕ, _<_}
 use borrow.Author.Tests.{ltb-true, eqb-false}
 use lib.ListN.{length}
-use Rattle.lists.specs.Below.{both}
+use Rattle.lists.specs.Below.{both, within}
 use Rattle.lists.proofs.Below.{by-test, both-left, both-right}
 use Rattle.lists.specs.Every.{every, pairwise}
 use Rattle.bindings.specs.Column.{columnsMost}
-use Rattle.wire.specs.Property.{within, cellSize, statusSize, lengthSize}
+use Rattle.wire.specs.Property.{cellSize, statusSize, lengthSize}
 use Rattle.bindings.specs.Fit.{isUsed, spanIf, spansOf, inside, apart, columnFits, differ, rowMost, columnsFit, fit}
 use Rattle.bindings.specs.declared.Column.{Column}
 use Rattle.bindings.specs.declared.Span.{Span}

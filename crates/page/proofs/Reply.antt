@@ -17,7 +17,8 @@ use Rattle.wire.specs.Laid.{Laid, endOf, Inside, Clear, Outside, cleared, fourW
 use Rattle.lists.specs.Parts.{part}
 use Rattle.wire.proofs.Lays.{each-map, lays-length, lays-outside, lays-read, lays-front}
 use Rattle.page.specs.Rows.{allBlocks, rowsSpans}
-use Rattle.page.specs.Page.{rowsMessage, pageSpans, pageBytes, page}
+use Rattle.page.specs.Page.{pageSpans, pageBytes, page}
+use Rattle.wire.specs.Header.{getRowsMsg}
 use Rattle.page.specs.RowReady.{needed}
 use Rattle.page.proofs.FillSteps.{needs-are}
 use Rattle.page.proofs.Parts.{good}
@@ -65,7 +66,7 @@ module _ (size from width base status : ℕ) (columns : List Column) (rows : Lis
   pub page-clear : Pairwise Clear (pageSpans size from width base status columns rows)
   unfolding Each Pairwise le
   page-clear = (
-    (inl (omega arith), after (header rowsMessage status) (omega arith)),
+    (inl (omega arith), after (header getRowsMsg status) (omega arith)),
     (
       after (record { place = 16; bytes = fourWords (length rows) 1 0 0 }) (omega arith),
       rows-clear base width columns (good width columns fits) rows from size needed-fits,

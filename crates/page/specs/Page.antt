@@ -8,14 +8,11 @@ use Rattle.catalogue.specs.Plain.{Row}
 use Rattle.bindings.specs.declared.Column.{Column}
 use Rattle.wire.specs.Laid.{Laid, lays, cleared, fourWords, header}
 use Rattle.page.specs.Rows.{rowsSpans}
-
--- "get rows 0xCC"
-abbrev pub rowsMessage : ℕ
-rowsMessage = 0xCC
+use Rattle.wire.specs.Header.{getRowsMsg}
 
 -- "header, _cRowsReturned, eType, _chapt, skip"
 abbrev pub headSpans : ℕ → ℕ → List Laid
-headSpans status rows = header rowsMessage status ∷ record { place = 16; bytes = fourWords rows 1 0 0 } ∷ []
+headSpans status rows = header getRowsMsg status ∷ record { place = 16; bytes = fourWords rows 1 0 0 } ∷ []
 
 -- all spans of a reply
 abbrev pub pageSpans : ℕ → ℕ → ℕ → ℕ → ℕ → List Column → List Row → List Laid

@@ -14,7 +14,7 @@ use Rattle.lists.specs.Parts.{part}
 use Rattle.page.specs.Field.{Field, number, text, absent}
 use Rattle.page.specs.Cell.{offsetWidth, textSize, statusOf, lengthOf, kindOf, blockOf}
 use Rattle.page.specs.Rows.{blocks, allBlocks}
-use Rattle.page.specs.Page.{rowsMessage}
+use Rattle.wire.specs.Header.{getRowsMsg}
 
 -- the j-th of rows; past the end, one of no fields
 abbrev pub rowIn : List Row → ℕ → Row
@@ -51,7 +51,7 @@ pub record Reads (reply : List ℕ) (base row place : ℕ) (c : Column) (f : Fie
 
 -- the eight words before the rows: the header, _cRowsReturned, eType, _chapt, skip
 pub record HeadReads (reply : List ℕ) (status rows : ℕ) : Type 0 where
-  pub message : numberAt 4 reply 0 ≡ rowsMessage
+  pub message : numberAt 4 reply 0 ≡ getRowsMsg
   pub result : numberAt 4 reply 4 ≡ status
   pub checksum : numberAt 4 reply 8 ≡ 0
   pub reserved : numberAt 4 reply 12 ≡ 0

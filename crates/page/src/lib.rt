@@ -1,4 +1,5 @@
-// The page of a rows reply: what a column of a row has to send, rows, and the whole. Definitions and laws, no code.
+// The page of a rows reply: what a column of a row has to send, how many rows fit, and the bytes of the whole (01, "Rows").
+// Definitions, laws, types and constants; no function.
 use catalogue::Text;
 
 // What a row has for a property.
@@ -10,3 +11,9 @@ pub enum FieldAt {
 
 // A row's number: a type of its own, so that no seat and no handle can stand for it.
 pub struct Row(pub u32);
+
+// The type that a cell says of a text.
+pub const TEXT_TYPE: u64 = 0x001F;
+
+// The status of a reply after which no row remains.
+pub const END_OF_ROWS: u32 = 0x0004_0EC6;

@@ -39,8 +39,6 @@ pub fn field(fields: Fields, property: u32) -> FieldAt
     text_field(fields.note)
 }
 
-const TEXT_TYPE: u64 = 0x001F;
-
 // The status byte: 0 present, 2 absent.
 pub fn status(field: FieldAt) -> u8
     ensures { λ r. ⌜ InAny (λ s. r ≡ statusOf (fieldSeen s field)) ⌝ }
@@ -73,7 +71,7 @@ pub fn length_sent(field: FieldAt, property: u32) -> u64
     ensures { λ r. ⌜ InAny (λ s. FieldStands s field → r ≡ lengthOf property (fieldSeen s field)) ⌝ }
 {
     match field {
-        FieldAt::NumberIs(_) => bindings_property::number_size(property) as u64,
+        FieldAt::NumberIs(_) => wire_property::number_size(property) as u64,
         FieldAt::TextIs(text) => {
             let size = text.size;
             2 * (size as u64)
@@ -87,8 +85,8 @@ pub fn kind(field: FieldAt, property: u32) -> u64
     ensures { λ r. ⌜ InAny (λ s. r ≡ kindOf property (fieldSeen s field)) ⌝ }
 {
     match field {
-        FieldAt::NumberIs(_) => bindings_property::number_type(property) as u64,
-        FieldAt::TextIs(_) => TEXT_TYPE,
+        FieldAt::NumberIs(_) => wire_property::number_type(property) as u64,
+        FieldAt::TextIs(_) => page::TEXT_TYPE,
         FieldAt::Absent => 0,
     }
 }

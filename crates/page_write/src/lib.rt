@@ -50,16 +50,12 @@ pub fn lay_rows(
     sent
 }
 
-const ROWS_MESSAGE: u32 = 0xCC;
-
-const END_OF_ROWS: u32 = 0x0004_0EC6;
-
 // The status of a reply after which so many rows remain.
 pub fn status_for(remaining: usize) -> u32
     ensures { λ r. ⌜ r ≡ statusFor remaining ⌝ }
 {
     if remaining == 0 {
-        return END_OF_ROWS;
+        return page::END_OF_ROWS;
     }
     0
 }
@@ -97,8 +93,8 @@ pub fn page(
         size,
         asked,
     );
-    wire_lay_word::lay_four(reply, 16, sent as u32, 1, 0, 0);
+    wire_lay_word::lay_four(reply, wire::HEADER_SIZE, sent as u32, 1, 0, 0);
     let status = status_for(numbers.len() - sent);
-    wire_lay_word::lay_header(reply, ROWS_MESSAGE, status);
+    wire_lay_word::lay_header(reply, wire::GET_ROWS, status);
     sent
 }

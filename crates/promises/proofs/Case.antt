@@ -11,8 +11,8 @@ use Rattle.catalogue.proofs.Vectors.{caseBytes, caseRows, case-parses}
 use Rattle.lists.specs.Every.{every, pairwise}
 use Rattle.bindings.specs.Fit.{spansOf, columnsFit, fit}
 use Rattle.bindings.specs.Plain.{zeroBytes, flag, spot, value, property, column, columns, bindings}
-use Rattle.wire.specs.Padding.{zeros}
-use Rattle.wire.specs.PropertyAt.{isSet, propertyAt}
+use Rattle.wire.specs.Padding.{zeroAt}
+use Rattle.wire.specs.PropertySpec.{setOurs, propertyAt}
 use Rattle.tree.specs.Parts.{relationAt}
 use Rattle.tree.specs.TreeHolds.{says}
 use Rattle.tree.specs.Reader.{readTree, restriction}
@@ -53,7 +53,7 @@ by-own s t seat h (c ∷ calls) w p =
     (ap (seatHeld (step (sourcesOf s) t c .words)) (sym (w .0)) ∙ l .held ∙ ap (λ (o : Option Seat). ownStep (sourcesOf s) o c .after) held))
 
 computed : ownHistory (record { rows = some caseRows }) none caseCalls ≡ caseEvents
-unfolding ownHistory firstCause seatMessage kindFrom numberAt number le restriction readTree relationAt propertyAt isSet zeros everyBelow says numbersFrom bindings columns column property value spot flag zeroBytes fit columnsFit every pairwise spansOf request blocks returned pageBytes lays lay rowsSpans rowSpans columnSpans unitBytes
+unfolding ownHistory firstCause seatMessage kindFrom numberAt number le restriction readTree relationAt propertyAt setOurs zeroAt everyBelow says numbersFrom bindings columns column property value spot flag zeroBytes fit columnsFit every pairwise spansOf request blocks returned pageBytes lays lay rowsSpans rowSpans columnSpans unitBytes
 computed = refl
 
 pub whole-case : history (sourcesOf caseBytes) freshTable caseCalls ≡ caseEvents

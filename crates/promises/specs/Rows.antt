@@ -24,6 +24,7 @@ use Rattle.message.specs.Message.{msgOf, handleOf}
 use Rattle.call.specs.Step.{Sources}
 use Rattle.promises.specs.Calls.{Call, connecting, opening, messaging, Answer, Event}
 use Rattle.promises.specs.Told.{accepted, afterCall, cursorTold, heldCursor}
+use Rattle.wire.specs.Header.{disconnectMsg, freeCursorMsg, getRowsMsg}
 
 -- "_cRowsReturned" and the status, as the reply's bytes say them
 abbrev pub countIn : List ℕ → ℕ
@@ -85,11 +86,11 @@ pageOn reply none joined = joined
 pageOn reply (some c) joined = joined ++ pageNumbers c reply
 
 abbrev pub joinedNamed : List ℕ → List ℕ → Option Cursor → List ℕ → List ℕ
-joinedNamed m reply c joined = pick (eqb (msgOf m) 0xCB) [] (pick (eqb (msgOf m) 0xCC) (pageOn reply c joined) joined)
+joinedNamed m reply c joined = pick (eqb (msgOf m) freeCursorMsg) [] (pick (eqb (msgOf m) getRowsMsg) (pageOn reply c joined) joined)
 
 abbrev pub joinedMessage : ℕ → List ℕ → List ℕ → Option Cursor → List ℕ → List ℕ
 joinedMessage handle m reply c joined =
-    pick (eqb (msgOf m) 0xC9) [] (pick (eqb (handleOf m) handle) (joinedNamed m reply c joined) joined)
+    pick (eqb (msgOf m) disconnectMsg) [] (pick (eqb (handleOf m) handle) (joinedNamed m reply c joined) joined)
 
 abbrev pub joinedCall : ℕ → ℕ → Option Cursor → List ℕ → Call → Answer → List ℕ
 joinedCall seat handle c joined (connecting k version) a = joined

@@ -17,6 +17,7 @@ use Rattle.table.specs.Seat.{Cursor, Seat, cursorIn, opened, rebound, moved}
 use Rattle.message.specs.Message.{msgOf, handleOf}
 use Rattle.call.specs.Step.{Sources, seatHeld}
 use Rattle.promises.specs.Calls.{Call, connecting, opening, messaging, Answer, Event}
+use Rattle.wire.specs.Header.{disconnectMsg, freeCursorMsg, getRowsMsg}
 
 -- "handles 1 and 2"
 abbrev pub Handle : ℕ → Type 0
@@ -33,15 +34,15 @@ boundOn none c = c
 boundOn (some b) none = none
 boundOn (some b) (some c) = some (rebound c (b .width) (b .columns))
 
--- what an accepted message makes of the cursor that it names: free cursor 0xCB, get rows 0xCC, set bindings
+-- what an accepted message makes of the cursor that it names: free cursor, get rows, set bindings
 abbrev pub afterNamed : List ℕ → List ℕ → Option Cursor → Option Cursor
 afterNamed m reply c =
-    pick (eqb (msgOf m) 0xCB) none (pick (eqb (msgOf m) 0xCC) (carriedOn reply c) (boundOn (bindings m) c))
+    pick (eqb (msgOf m) freeCursorMsg) none (pick (eqb (msgOf m) getRowsMsg) (carriedOn reply c) (boundOn (bindings m) c))
 
--- and of the cursor under a handle of its seat: disconnect 0xC9 closes both
+-- and of the cursor under a handle of its seat: disconnect closes both
 abbrev pub afterMessage : ℕ → List ℕ → List ℕ → Option Cursor → Option Cursor
 afterMessage handle m reply c =
-    pick (eqb (msgOf m) 0xC9) none (pick (eqb (handleOf m) handle) (afterNamed m reply c) c)
+    pick (eqb (msgOf m) disconnectMsg) none (pick (eqb (handleOf m) handle) (afterNamed m reply c) c)
 
 -- whether a call of a seat was accepted
 abbrev pub accepted : ℕ → ℕ → Answer → Bool

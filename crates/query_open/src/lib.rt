@@ -33,7 +33,7 @@ pub fn judge(seat: &[u32], tree: &[u8]) -> Opened
     requires { ⌜ length (now seat) ≡ seatSize ⌝ }
     ensures { λ r. ⌜ Judged (seatOf (now (seat .entry))) (now (tree .entry)) r ⌝ }
 {
-    if seat[0] == 0 {
+    if seat[table::CONNECTED] == 0 {
         return Opened {
             refusal: 7,
             handle: 0,
@@ -56,7 +56,13 @@ pub fn judge(seat: &[u32], tree: &[u8]) -> Opened
 }
 
 // Opens a closed cursor on the rows that a tree selects.
-fn fill(cursor: &mut [u32], tree: &[u8], catalogue: &[u8], rows: u32, places: &[u32; 1024])
+fn fill(
+    cursor: &mut [u32],
+    tree: &[u8],
+    catalogue: &[u8],
+    rows: u32,
+    places: &[u32; catalogue::ROWS_MOST],
+)
     requires { ⌜ (now cursor ≡ cursorBlock none) × (isTree (restriction (now tree)) ≡ true) × Noted (now catalogue) rows (now places) ⌝ }
     ensures { λ _. ⌜ now (cursor .exit) ≡ cursorBlock (some (opened (selected (now (tree .entry)) (now (catalogue .entry))))) ⌝ }
 {
@@ -77,7 +83,7 @@ pub fn open(
     tree: &[u8],
     catalogue: &[u8],
     rows: u32,
-    places: &[u32; 1024],
+    places: &[u32; catalogue::ROWS_MOST],
 )
     requires { ⌜ (length (now seat) ≡ seatSize) × (part (now seat) (cursorPlace handle) cursorSize ≡ cursorBlock none) × (isTree (restriction (now tree)) ≡ true) × Noted (now catalogue) rows (now places) ⌝ }
     ensures { λ _. ⌜ now (seat .exit) ≡ put (now (seat .entry)) (cursorPlace handle) cursorSize (cursorBlock (some (opened (selected (now (tree .entry)) (now (catalogue .entry)))))) ⌝ }

@@ -5,8 +5,6 @@ ghost use lib.ListN.{length};
 ghost use Rattle.table.specs.Layout.{cursorSize};
 ghost use Rattle.table.specs.Well.{rising, selectionWell, openWell, cursorWell};
 
-const ROWS_SIZE: u32 = 1024;
-
 // Each number is below the next.
 fn rising(rows: &[u32]) -> bool
     ensures { λ r. ⌜ r ≡ rising (now (rows .entry)) ⌝ }
@@ -46,7 +44,7 @@ fn open_well(cursor: &[u32]) -> bool
     if count < cursor[table::POSITION] {
         return false;
     }
-    if ROWS_SIZE < count {
+    if table::ROWS_SIZE < count {
         return false;
     }
     if !table_bindings::bindings_well(cursor) {

@@ -6,8 +6,6 @@ ghost use Rattle.table.specs.Layout.{seatSize, cursorSize};
 ghost use Rattle.table.specs.Seat.{cursorOf, seatOf};
 ghost use Rattle.table.specs.Well.{cursorWell, seatWell, tableWell, cursorBelow, seatBelow, tableBelow};
 
-pub const TABLE_SIZE: usize = 17200;
-
 // The block of a seat.
 fn seat_well(seat: &[u32]) -> bool
     requires { ⌜ length (now seat) ≡ seatSize ⌝ }
@@ -30,11 +28,11 @@ fn seat_well(seat: &[u32]) -> bool
 pub fn well(table: &[u32]) -> bool
     ensures { λ r. ⌜ r ≡ tableWell (now (table .entry)) ⌝ }
 {
-    if table.len() != TABLE_SIZE {
+    if table.len() != table::TABLE_SIZE {
         return false;
     }
     let mut seat: usize = 0;
-    while seat < 8 {
+    while seat < table::SEATS {
         let at = table::SEAT_SIZE * seat;
         let end = at + table::SEAT_SIZE;
         if !seat_well(&table[at..end]) {
@@ -81,7 +79,7 @@ pub fn below(table: &[u32], rows: u32) -> bool
     ensures { λ r. ⌜ r ≡ tableBelow rows (now (table .entry)) ⌝ }
 {
     let mut seat: usize = 0;
-    while seat < 8 {
+    while seat < table::SEATS {
         let at = table::SEAT_SIZE * seat;
         let end = at + table::SEAT_SIZE;
         if !seat_below(&table[at..end], rows) {

@@ -10,14 +10,15 @@ use Rattle.wire.specs.Word.{numberAt}
 use Rattle.lists.proofs.Below.{by-test}
 use Rattle.lists.proofs.Options.{none≢some, some-is, then-inv}
 use Rattle.tree.specs.Leaf.{Leaf}
-use Rattle.wire.specs.Padding.{padding, zeros}
-use Rattle.tree.specs.Parts.{headSize, kindAt, leafAt, withLeaf, leafOf}
+use Rattle.wire.specs.Padding.{padding, zeroAt}
+use Rattle.tree.specs.Parts.{nodeKind, leafAt, withLeaf, leafOf}
+use Rattle.tree.specs.Kinds.{headSize, isBranch, listHead}
 use Rattle.tree.specs.declared.LeafAt.{LeafAt}
 use Rattle.tree.specs.declared.LeafAt.the-variants.{LeafTo, NoLeaf}
 use Rattle.tree.proofs.LeafLaws.{pick-inv}
 use Rattle.tree.proofs.LeafWords.{leaf-read}
 use Rattle.tree.specs.Tree.{Tree, Forest, leaf, and, or, not, end, further}
-use Rattle.tree.specs.Reader.{TreeRead, ForestRead, Read, readList, isBranch, listHead, joined, branchRead, negated, notRead, leafRead, readNode, readTree}
+use Rattle.tree.specs.Reader.{TreeRead, ForestRead, Read, readList, joined, branchRead, negated, notRead, leafRead, readNode, readTree}
 
 -- what is said of a tree, and of children, that were read with so many levels and nodes left at a place
 pub record Said : Type 1 where
@@ -46,8 +47,8 @@ module _ (Q : Said) (passes : Passes Q) where
     list-good zero nodes place s r e =
         subst (Q .ofForest l nodes place) (some-is {a = record { forest = end; used = 0; nodes = nodes }} e) (passes .none-left l nodes place)
     list-good (suc k) nodes place s r e =
-        let start = padding place in
-        let i = pick-inv (both (leb start (length s)) (zeros s 0 start)) _ none (some r) none≢some e in
+        let start = padding 4 place in
+        let i = pick-inv (both (leb start (length s)) (zeroAt s 0 start)) _ none (some r) none≢some e in
         let j = then-inv (read nodes (place + start) (drop start s)) _ r (i .1) in
         let t = j .0 in
         let next = start + t .used in
@@ -99,7 +100,7 @@ module _ (Q : Said) (passes : Passes Q) where
 
     node-good : (nodes place : ℕ) (s : List ℕ) (r : TreeRead) → readNode read nodes place s ≡ some r → Q .ofTree (suc l) (suc nodes) place r
     node-good nodes place s r e =
-        let kind = kindAt s in
+        let kind = nodeKind s in
         let i = pick-inv (leb headSize (length s)) _ none (some r) none≢some e in
         by-test (isBranch kind)
         (λ q. branch-good kind nodes place s r (rw q at (i .1)))

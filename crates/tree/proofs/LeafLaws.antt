@@ -10,10 +10,10 @@ use lib.ListN.{length}
 use Rattle.lists.specs.Below.{pick, both}
 use Rattle.wire.specs.Word.{numberAt}
 use Rattle.lists.proofs.Below.{both-left}
-use Rattle.wire.specs.Property.{isNumber}
-use Rattle.tree.specs.LeafLimits.{phraseMost}
-use Rattle.wire.specs.Padding.{padding, zeros}
-use Rattle.wire.specs.PropertyAt.{isText, propertyAt}
+use Rattle.wire.specs.Property.{isNumber, isText}
+use Rattle.tree.specs.Limits.{phraseMost}
+use Rattle.wire.specs.Padding.{padding, zeroAt}
+use Rattle.wire.specs.PropertySpec.{propertyAt}
 use Rattle.tree.specs.Parts.{phraseSized, phraseAt, contentAt, relationAt}
 use Rattle.tree.specs.declared.Parts.{Parts}
 use Rattle.tree.specs.declared.Parts.the-variants.{OfContent, OfRelation}
@@ -40,8 +40,8 @@ pub record PhraseRead (s : List ℕ) (at start count next : ℕ) : Type 0 where
 phrase-sized : (s : List ℕ) (place at before n start count next : ℕ) → phraseSized s place at before n ≡ PhraseTo start count next → PhraseRead s at start count next
 phrase-sized s place at before n start count next e =
     let end = at + before + 4 + 2 * n in
-    let pad = padding (place + end) in
-    let rest = both (both (leb 1 n) (leb n phraseMost)) (both (zeros s at before) (zeros s end pad)) in
+    let pad = padding 4 (place + end) in
+    let rest = both (both (leb 1 n) (leb n phraseMost)) (both (zeroAt s at before) (zeroAt s end pad)) in
     let i = pick-inv (both (leb (end + pad) (length s)) rest) (PhraseTo (at + before + 4) n (end + pad)) NoPhrase (PhraseTo start count next) no-phrase e in
     let a : at + before + 4 ≡ start = cc (i .1) in
     let b : n ≡ count = cc (i .1) in
@@ -51,21 +51,21 @@ phrase-sized s place at before n start count next e =
 
 pub phrase-read : (s : List ℕ) (place at start count next : ℕ) → phraseAt s place at ≡ PhraseTo start count next → PhraseRead s at start count next
 unfolding phraseAt
-phrase-read s place at start count next e = phrase-sized s place at (padding (place + at)) _ start count next e
+phrase-read s place at start count next e = phrase-sized s place at (padding 4 (place + at)) _ start count next e
 
 -- the ways that the reading of a phrase can go: the bytes end before its units or after them, or the answer is by the count and the padding
-module _ (s : List ℕ) (place at before : ℕ) (b : before ≡ padding (place + at)) where
+module _ (s : List ℕ) (place at before : ℕ) (b : before ≡ padding 4 (place + at)) where
   pub phrase-short : length s < at + before + 4 → NoPhrase ≡ phraseAt s place at
   unfolding phraseAt
-  phrase-short h = rw (← b, lt-leb (at + before + 4 + 2 * numberAt 4 s (at + before) + padding (place + (at + before + 4 + 2 * numberAt 4 s (at + before)))) (length s) (omega arith))
+  phrase-short h = rw (← b, lt-leb (at + before + 4 + 2 * numberAt 4 s (at + before) + padding 4 (place + (at + before + 4 + 2 * numberAt 4 s (at + before)))) (length s) (omega arith))
 
-  module _ (count after : ℕ) (n : count ≡ numberAt 4 s (at + before)) (p : after ≡ padding (place + (at + before + 4 + 2 * count))) where
+  module _ (count after : ℕ) (n : count ≡ numberAt 4 s (at + before)) (p : after ≡ padding 4 (place + (at + before + 4 + 2 * count))) where
     pub phrase-cut : length s < at + before + 4 + 2 * count + after → NoPhrase ≡ phraseAt s place at
     unfolding phraseAt
     phrase-cut h = rw (← b, ← n, ← p, lt-leb _ _ h)
 
     pub phrase-by : at + before + 4 + 2 * count + after ≤ length s → (fits : Bool)
-        → fits ≡ both (both (leb 1 count) (leb count phraseMost)) (both (zeros s at before) (zeros s (at + before + 4 + 2 * count) after))
+        → fits ≡ both (both (leb 1 count) (leb count phraseMost)) (both (zeroAt s at before) (zeroAt s (at + before + 4 + 2 * count) after))
         → pick fits (PhraseTo (at + before + 4) count (at + before + 4 + 2 * count + after)) NoPhrase ≡ phraseAt s place at
     unfolding phraseAt
     phrase-by h fits e = rw (← b, ← n, ← p, le-leb _ _ h, e)

@@ -1,9 +1,9 @@
 -- What a leaf that was read has in words: they stand at fixed distances from its first byte, and no other byte decides what it says.
 -- Assumes nothing.
-use mathlib.Core.Path.{_≡_, refl, sym}
+use mathlib.Core.Path.{_≡_, refl, sym, _∙_}
 use mathlib.Core.Bool.{Bool, true, false}
 use mathlib.Core.List.{List}
-use Prim.Native.Nat.{ℕ, _+_, _*_, _≤_, _<_}
+use Prim.Native.Nat.{ℕ, _+_, _≤_, _<_}
 use native.Mathlib.Omega.{arith}
 use borrow.Author.Tests.{leb-true}
 use lib.Dec.{leb, eqb}
@@ -11,12 +11,11 @@ use lib.ListN.{length}
 use Rattle.lists.specs.Below.{pick, both}
 use Rattle.wire.specs.Word.{numberAt}
 use Rattle.lists.proofs.Below.{by-test, both-left, both-right}
-use Rattle.wire.specs.Property.{isNumber}
-use Rattle.tree.specs.LeafLimits.{phraseMost}
-use Rattle.wire.specs.Padding.{padding, zeros}
-use Rattle.wire.specs.PropertyAt.{isText, isSet, propertyAt}
+use Rattle.wire.specs.Property.{isNumber, isText}
+use Rattle.tree.specs.Limits.{phraseMost}
+use Rattle.wire.specs.Padding.{padding, zeroAt}
+use Rattle.wire.specs.PropertySpec.{setOurs, isNumbered, propertyAt}
 use Rattle.tree.specs.Parts.{phraseAt, withPhrase, contentFrom, contentAt, relationAt, leafAt}
-use Rattle.tree.specs.declared.Content.{Content}
 use Rattle.tree.specs.declared.Relation.{Relation}
 use Rattle.tree.specs.declared.Parts.{Parts}
 use Rattle.tree.specs.declared.Parts.the-variants.{OfContent, OfRelation}
@@ -24,6 +23,7 @@ use Rattle.tree.specs.declared.PhraseAt.{PhraseAt}
 use Rattle.tree.specs.declared.PhraseAt.the-variants.{PhraseTo, NoPhrase}
 use Rattle.tree.specs.declared.LeafAt.the-variants.{LeafTo, NoLeaf}
 use Rattle.tree.proofs.LeafLaws.{pick-inv, no-phrase, no-leaf}
+use Rattle.tree.specs.LeafPlaces.{relationIn, countAt, unitsEnd, localeAt, contentIn}
 
 -- a property that is served is the number that stands there
 pick-is : (b : Bool) (n : ℕ) → 0 < pick b n 0 → pick b n 0 ≡ n
@@ -32,11 +32,10 @@ pick-is false n h = absurd (omega (arith, h))
 
 property-is : (s : List ℕ) (at : ℕ) → 0 < propertyAt s at → propertyAt s at ≡ numberAt 4 s (at + 20)
 unfolding propertyAt
-property-is s at h = pick-is (both (isSet s at) (eqb (numberAt 4 s (at + 16)) 1)) (numberAt 4 s (at + 20)) h
-
--- a property leaf in words
-abbrev pub relationIn : List ℕ → Relation
-relationIn s = record { relop = numberAt 4 s 8; property = numberAt 4 s 32; value = numberAt 4 s 40 }
+property-is s at h =
+    let inner = pick (setOurs s at) (numberAt 4 s (at + 20)) 0 in
+    let outer : propertyAt s at ≡ inner = pick-is (isNumbered s at) inner h in
+    outer ∙ pick-is (setOurs s at) (numberAt 4 s (at + 20)) (rw outer at h)
 
 pub relation-words : (s : List ℕ) (p : Parts) (used : ℕ) → relationAt s ≡ LeafTo p used → (44 ≤ length s) × (p ≡ OfRelation (relationIn s)) × (used ≡ 44)
 unfolding relationAt
@@ -51,38 +50,24 @@ relation-words s p used e =
     let l = leb-true 2 (propertyAt s 12) (both-left (leb 2 (propertyAt s 12)) _ n) in
     (leb-true 44 (length s) (both-left _ (both served typed) (i .0)), rw (← a, property-is s 12 (omega (arith, l))), sym b)
 
--- a content leaf in words: where its count stands, its units end, and its locale stands, from its first byte on
-abbrev pub sizeIn : ℕ → ℕ
-sizeIn place = 32 + padding (place + 32)
-
-abbrev pub endIn : List ℕ → ℕ → ℕ
-endIn s place = sizeIn place + 4 + 2 * numberAt 4 s (sizeIn place)
-
-abbrev pub localeIn : List ℕ → ℕ → ℕ
-localeIn s place = endIn s place + padding (place + endIn s place)
-
 phrase-words : (s : List ℕ) (place start count next : ℕ) → phraseAt s place 32 ≡ PhraseTo start count next
-    → (start ≡ sizeIn place + 4) × (count ≡ numberAt 4 s (sizeIn place)) × (next ≡ localeIn s place)
+    → (start ≡ countAt place + 4) × (count ≡ numberAt 4 s (countAt place)) × (next ≡ localeAt s place)
 unfolding phraseAt
 phrase-words s place start count next e =
-    let n = numberAt 4 s (sizeIn place) in
-    let end = endIn s place in
-    let pad = padding (place + end) in
-    let rest = both (both (leb 1 n) (leb n phraseMost)) (both (zeros s 32 (padding (place + 32))) (zeros s end pad)) in
-    let i = pick-inv (both (leb (end + pad) (length s)) rest) (PhraseTo (sizeIn place + 4) n (end + pad)) NoPhrase (PhraseTo start count next) no-phrase e in
+    let n = numberAt 4 s (countAt place) in
+    let end = unitsEnd s place in
+    let pad = padding 4 (place + end) in
+    let rest = both (both (leb 1 n) (leb n phraseMost)) (both (zeroAt s 32 (padding 4 (place + 32))) (zeroAt s end pad)) in
+    let i = pick-inv (both (leb (end + pad) (length s)) rest) (PhraseTo (countAt place + 4) n (end + pad)) NoPhrase (PhraseTo start count next) no-phrase e in
     (cc (i .1), cc (i .1), cc (i .1))
 
-abbrev pub contentIn : List ℕ → ℕ → Content
-contentIn s place =
-    record { property = numberAt 4 s 28; start = sizeIn place + 4; count = numberAt 4 s (sizeIn place); method = numberAt 4 s (localeIn s place + 4) }
-
 pub content-words : (s : List ℕ) (place : ℕ) (p : Parts) (used : ℕ) → contentAt s place ≡ LeafTo p used
-    → (localeIn s place + 8 ≤ length s) × (p ≡ OfContent (contentIn s place)) × (used ≡ localeIn s place + 8)
+    → (localeAt s place + 8 ≤ length s) × (p ≡ OfContent (contentIn s place)) × (used ≡ localeAt s place + 8)
 unfolding contentAt
 content-words s place p used e = go (phraseAt s place 32) refl e
   where
     go : (r : PhraseAt) → phraseAt s place 32 ≡ r → withPhrase r NoLeaf (contentFrom s) ≡ LeafTo p used
-        → (localeIn s place + 8 ≤ length s) × (p ≡ OfContent (contentIn s place)) × (used ≡ localeIn s place + 8)
+        → (localeAt s place + 8 ≤ length s) × (p ≡ OfContent (contentIn s place)) × (used ≡ localeAt s place + 8)
     go NoPhrase q f = absurd (no-leaf f)
     go (PhraseTo start count next) q f =
         let w = phrase-words s place start count next q in

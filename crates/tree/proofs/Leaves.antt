@@ -16,14 +16,15 @@ use Rattle.catalogue.specs.Places.{textOf, rowOf}
 use Rattle.catalogue.specs.declared.Text.{Text}
 use Rattle.catalogue.specs.declared.Fields.{Fields}
 use Rattle.wire.specs.Padding.{padding}
-use Rattle.wire.specs.PropertyAt.{ofTexts}
+use Rattle.wire.specs.Property.{ofTexts}
 use Rattle.tree.specs.LeafHolds.{phraseHolds, leafHolds}
 use Rattle.tree.specs.Parts.{contentAt, relationAt, leafOf}
 use Rattle.tree.specs.declared.LeafAt.the-variants.{LeafTo, NoLeaf}
 use Rattle.tree.proofs.LeafLaws.{pick-inv, no-leaf}
-use Rattle.tree.proofs.LeafWords.{sizeIn, endIn, localeIn, relation-words, content-words}
+use Rattle.tree.proofs.LeafWords.{relation-words, content-words}
 use Rattle.tree.specs.VerdictTold.{told}
-use Rattle.tree.specs.HoldTold.{countAt, unitsEnd, localeAt, relationTold, contentTold, leafTold}
+use Rattle.tree.specs.LeafPlaces.{countAt, unitsEnd, localeAt}
+use Rattle.tree.specs.HoldTold.{relationTold, contentTold, leafTold}
 use Rattle.tree.specs.Inside.{TextInside, RowInside}
 use Rattle.tree.specs.There.{LeafThere}
 
@@ -46,17 +47,37 @@ content-same : {m m' e e' : ℕ} {u u' : List ℕ} {x x' : Option (List ℕ)} �
 content-same a b c d = rw (a, b, c, d)
 
 -- the places that the code counts, and what it finds there
-module _ (s : List ℕ) (at before count after : ℕ) (b : before ≡ padding (at + 32)) (n : count ≡ numberAt 4 s (at + 32 + before)) (a : after ≡ padding (at + 32 + before + 4 + 2 * count)) where
-  pub locale-counted : at + 32 + before + 4 + 2 * count + after ≡ localeAt s at
-  locale-counted = rw (a, n, b)
+module _ (s : List ℕ) (at before count after : ℕ) (b : before ≡ padding 4 (at + 32)) (n : count ≡ numberAt 4 s (at + 32 + before)) (a : after ≡ padding 4 (at + 32 + before + 4 + 2 * count)) where
+  count-place : at + countAt at ≡ at + 32 + before
+  count-place = omega (arith, b)
+
+  count-is : count ≡ numberAt 4 (drop at s) (countAt at)
+  count-is = n ∙ sym (word-from 4 s at (countAt at) ∙ ap (numberAt 4 s) count-place)
+
+  units-end : at + unitsEnd (drop at s) at ≡ at + 32 + before + 4 + 2 * count
+  units-end = omega (arith, count-place, count-is)
+
+  pub locale-counted : at + 32 + before + 4 + 2 * count + after ≡ at + localeAt (drop at s) at
+  locale-counted = omega (arith, a, units-end, ap (padding 4) units-end)
 
   pub content-counted : (held : List ℕ) (f : Fields) (property method : ℕ) (text : Text) (h : Bool) → property ≡ numberAt 4 s (at + 28)
       → method ≡ numberAt 4 s (at + 32 + before + 4 + 2 * count + after + 4) → text ≡ ofTexts property (f .label) (f .note)
       → h ≡ phraseHolds method (halves (take (at + 32 + before + 4 + 2 * count - (at + 32 + before + 4)) (drop (at + 32 + before + 4) s))) (textOf held text)
       → told h (at + 32 + before + 4 + 2 * count + after + 8) ≡ contentTold s at held f
   content-counted held f property method text h p m t e =
-      let size : at + 32 + before + 4 + 2 * count - (at + 32 + before + 4) ≡ 2 * count = omega arith in
-      rw (e, size, m, t, p, locale-counted, n, b)
+      let d = drop at s in
+      let size : at + 32 + before + 4 + 2 * count - (at + 32 + before + 4) ≡ 2 * numberAt 4 d (countAt at) = omega (arith, count-is) in
+      let start : at + (countAt at + 4) ≡ at + 32 + before + 4 = omega (arith, count-place) in
+      let last : at + (localeAt d at + 4) ≡ at + 32 + before + 4 + 2 * count + after + 4 = omega (arith, locale-counted) in
+      let units : take (at + 32 + before + 4 + 2 * count - (at + 32 + before + 4)) (drop (at + 32 + before + 4) s)
+      ≡ take (2 * numberAt 4 d (countAt at)) (drop (countAt at + 4) d) = rw (size, drop-drop (countAt at + 4) at s, start) in
+      let named : textOf held text ≡ textOf held (ofTexts (numberAt 4 d 28) (f .label) (f .note)) = rw (t, p, word-from 4 s at 28) in
+      rw e
+      (content-same
+      (m ∙ sym (word-from 4 s at (localeAt d at + 4) ∙ ap (numberAt 4 s) last))
+      (ap halves units)
+      named
+      (omega (arith, locale-counted)))
 
 -- what is left from a place on, where bytes are read past its start
 pub left-past : (n at : ℕ) (s : List ℕ) → 0 < n → n ≤ length (drop at s) → at + n ≤ length s
@@ -75,44 +96,18 @@ module _ (kind : ℕ) (s : List ℕ) (at : ℕ) (held : List ℕ) (f : Fields) (
     relation-inside = left-past 44 at s (omega arith) (relation-words (drop at s) (w .parts) (w .used) relation-read .0)
 
     pub relation-is : relationTold s at f ≡ leafTold kind s at (rowOf held f)
-    relation-is =
-        let r = relation-words (drop at s) (w .parts) (w .used) relation-read in
-        sym (leaf-is ∙ rw (r .1, r .2, word-from 4 s at 8, word-from 4 s at 32, word-from 4 s at 40))
+    relation-is = let r = relation-words (drop at s) (w .parts) (w .used) relation-read in sym (leaf-is ∙ rw (r .1, r .2))
 
   module _ (k : kind ≡ 4) where
     content-read : contentAt (drop at s) at ≡ LeafTo (w .parts) (w .used)
     content-read = rw (eq-eqb kind 4 k) at (w .read)
 
-    size-at : at + sizeIn at ≡ countAt at
-    size-at = omega arith
-
-    count-is : numberAt 4 (drop at s) (sizeIn at) ≡ numberAt 4 s (countAt at)
-    count-is = word-from 4 s at (sizeIn at) ∙ ap (numberAt 4 s) size-at
-
-    end-at : at + endIn (drop at s) at ≡ unitsEnd s at
-    end-at = omega (arith, count-is, size-at)
-
-    locale-at : at + localeIn (drop at s) at ≡ localeAt s at
-    locale-at = omega (arith, end-at, ap padding end-at)
-
-    pub content-inside : localeAt s at + 8 ≤ length s
+    pub content-inside : at + (localeAt (drop at s) at + 8) ≤ length s
     content-inside =
-        let l = content-words (drop at s) at (w .parts) (w .used) content-read .0 in
-        omega (arith, locale-at, left-past (localeIn (drop at s) at + 8) at s (omega arith) l)
+        left-past (localeAt (drop at s) at + 8) at s (omega arith) (content-words (drop at s) at (w .parts) (w .used) content-read .0)
 
     pub content-is : contentTold s at held f ≡ leafTold kind s at (rowOf held f)
     content-is =
-        let t = drop at s in
-        let r = content-words t at (w .parts) (w .used) content-read in
-        let start : at + (sizeIn at + 4) ≡ countAt at + 4 = omega (arith, size-at) in
-        let method : at + (localeIn t at + 4) ≡ localeAt s at + 4 = omega (arith, locale-at) in
-        let units : take (2 * numberAt 4 t (sizeIn at)) (drop (sizeIn at + 4) t) ≡ take (2 * numberAt 4 s (countAt at)) (drop (countAt at + 4) s) =
-        rw (drop-drop (sizeIn at + 4) at s, count-is, start) in
-        let text : ofTexts (numberAt 4 t 28) (textOf held (f .label)) (textOf held (f .note)) ≡ textOf held (ofTexts (numberAt 4 s (at + 28)) (f .label) (f .note)) =
-        rw (word-from 4 s at 28) (sym (text-named held (numberAt 4 s (at + 28)) (f .label) (f .note))) in
-        sym (leaf-is ∙ rw (r .1, r .2)
-        (content-same
-        (word-from 4 s at (localeIn t at + 4) ∙ ap (numberAt 4 s) method)
-        (ap halves units)
-        text
-        (omega (arith, locale-at))))
+        let d = drop at s in
+        let r = content-words d at (w .parts) (w .used) content-read in
+        rw (text-named held (numberAt 4 d 28) (f .label) (f .note)) (sym (leaf-is ∙ rw (r .1, r .2)))

@@ -15,16 +15,17 @@ use Rattle.wire.specs.Word.{numberAt}
 use Rattle.lists.proofs.Below.{by-test, true≢false}
 use Rattle.lists.proofs.Options.{none≢some, some-is, then-inv}
 use Rattle.catalogue.specs.Plain.{Row}
-use Rattle.wire.specs.Padding.{padding, zeros}
-use Rattle.tree.specs.Parts.{kindAt, leafAt, withLeaf, leafOf}
+use Rattle.wire.specs.Padding.{padding, zeroAt}
+use Rattle.tree.specs.Parts.{nodeKind, leafAt, withLeaf, leafOf}
 use Rattle.tree.specs.declared.LeafAt.{LeafAt}
 use Rattle.tree.specs.declared.LeafAt.the-variants.{LeafTo, NoLeaf}
 use Rattle.tree.proofs.LeafLaws.{pick-inv}
-use Rattle.tree.specs.TreeLimits.{bytesMost, nodesMost, levelsMost}
+use Rattle.tree.specs.Limits.{bytesMost, nodesMost, levelsMost}
 use Rattle.tree.specs.Tree.{Tree, Forest, leaf, and, or, end, further}
 use Rattle.tree.specs.Tree as Tree
 use Rattle.tree.specs.TreeHolds.{says, everySays, someSays, tellsOf, holds, heldBy}
-use Rattle.tree.specs.Reader.{TreeRead, ForestRead, Read, readList, isBranch, joined, branchRead, negated, notRead, leafRead, readTree, restriction}
+use Rattle.tree.specs.Reader.{TreeRead, ForestRead, Read, readList, joined, branchRead, negated, notRead, leafRead, readTree, restriction}
+use Rattle.tree.specs.Kinds.{isBranch}
 use Rattle.tree.specs.Answer.{isTree}
 use Rattle.tree.proofs.TreeFacts.{held}
 use Rattle.tree.proofs.TreeLaws.{no-levels, no-nodes, no-head, node-branch, node-not, node-leaf}
@@ -62,7 +63,7 @@ module _ (levels nodes place : ℕ) (s : List ℕ) (r : TreeRead) (e : readTree 
 
 -- and it is read by its kind, the word at its place
 module _ (levels nodes at : ℕ) (s : List ℕ) (r : TreeRead) (e : readTree levels nodes at (drop at s) ≡ some r) (kind : ℕ) (k : kind ≡ numberAt 4 s at) where
-  kind-is : kind ≡ kindAt (drop at s)
+  kind-is : kind ≡ nodeKind (drop at s)
   unfolding numberAt
   kind-is = k
 
@@ -187,14 +188,14 @@ module _ (read : Read) (kind : ℕ) (s : List ℕ) (row : Row) where
     child-read : (count place : ℕ) (f : ForestRead) (nodes : ℕ) → readList read (suc count) nodes place (drop place s) ≡ some f
         → (x : TreeRead)
         × (g : ForestRead)
-        × (read nodes (place + padding place) (drop (place + padding place) s) ≡ some x)
-        × (readList read count (x .nodes) (place + padding place + x .used) (drop (place + padding place + x .used) s) ≡ some g)
-        × (f ≡ record { forest = further (x .tree) (g .forest); used = padding place + x .used + g .used; nodes = g .nodes })
+        × (read nodes (place + padding 4 place) (drop (place + padding 4 place) s) ≡ some x)
+        × (readList read count (x .nodes) (place + padding 4 place + x .used) (drop (place + padding 4 place + x .used) s) ≡ some g)
+        × (f ≡ record { forest = further (x .tree) (g .forest); used = padding 4 place + x .used + g .used; nodes = g .nodes })
     unfolding readList
     child-read count place f nodes e =
         let t = drop place s in
-        let start = padding place in
-        let i = pick-inv (both (leb start (length t)) (zeros t 0 start)) _ none (some f) none≢some e in
+        let start = padding 4 place in
+        let i = pick-inv (both (leb start (length t)) (zeroAt t 0 start)) _ none (some f) none≢some e in
         let j = then-inv (read nodes (place + start) (drop start t)) _ f (i .1) in
         let x = j .0 in
         let next = start + x .used in
@@ -210,19 +211,19 @@ module _ (read : Read) (kind : ℕ) (s : List ℕ) (row : Row) where
       opened : 0 < count → readList read (suc (count - 1)) (l .nodes) place (drop place s) ≡ some (l .children)
       opened h = rw (at-least count h) (l .is)
 
-      pub left-child : 0 < count → length s ≤ bytesMost → Found read s (place + padding place)
+      pub left-child : 0 < count → length s ≤ bytesMost → Found read s (place + padding 4 place)
       left-child h short =
           let o = child-read (count - 1) place (l .children) (l .nodes) (opened h) in
           record { short = short; nodes = l .nodes; node = o .0; is = o .2 }
 
-      pub left-next : (answer : ℕ) → 0 < count → Tells read s (place + padding place) row answer
+      pub left-next : (answer : ℕ) → 0 < count → Tells read s (place + padding 4 place) row answer
           → Left read kind s row (count - 1) (answer / 2) (withChild kind held (eqb (answer % 2) 1)) all last
       left-next answer h tells =
           let o = child-read (count - 1) place (l .children) (l .nodes) (opened h) in
           let x = o .0 in
           let g = o .1 in
           let a = tells (l .nodes) x (o .2) in
-          let at : answer / 2 ≡ place + padding place + x .used = rw a (told-end (holds (x .tree) row) _) in
+          let at : answer / 2 ≡ place + padding 4 place + x .used = rw a (told-end (holds (x .tree) row) _) in
           let b : eqb (answer % 2) 1 ≡ holds (x .tree) row = rw a (told-holds (holds (x .tree) row) _) in
           record {
             nodes = x .nodes;

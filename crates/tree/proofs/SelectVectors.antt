@@ -9,8 +9,8 @@ use Rattle.catalogue.specs.Groups as Groups
 use Rattle.catalogue.specs.Plain.{text, row, rows, catalogue}
 use Rattle.catalogue.specs.Writer.{unitBytes}
 use Rattle.tree.specs.Phrase.{occurs, occursAt, standsAt, startsWord, endsWord}
-use Rattle.wire.specs.Padding.{zeros}
-use Rattle.wire.specs.PropertyAt.{isSet, propertyAt}
+use Rattle.wire.specs.Padding.{zeroAt}
+use Rattle.wire.specs.PropertySpec.{setOurs, propertyAt}
 use Rattle.tree.specs.Parts.{phraseAt, contentAt, relationAt}
 use Rattle.tree.specs.TreeHolds.{says}
 use Rattle.tree.specs.Reader.{readTree, restriction}
@@ -25,13 +25,13 @@ pub numbers-selected : (selected (related 4 2 300) two-rows ≡ 0 ∷ [])
     × (selected (nots 1 (related 4 2 300)) two-rows ≡ 1 ∷ [])
     × (selected (related 3 2 0) two-rows ≡ 0 ∷ 1 ∷ [])
     × (selected (related 2 3 1031) two-rows ≡ [])
-unfolding catalogue rows row text Groups.number groups halves everyBelow restriction readTree relationAt propertyAt isSet zeros numberAt number le says numbersFrom
+unfolding catalogue rows row text Groups.number groups halves everyBelow restriction readTree relationAt propertyAt setOurs zeroAt numberAt number le says numbersFrom
 numbers-selected = (refl, refl, refl, refl)
 
 -- "Absent text holds no phrase; a not above it is true"
 pub texts-selected : (selected (phrased 5 (0x4F ∷ 0x4B ∷ []) [] 0) two-rows ≡ 0 ∷ [])
     × (selected (nots 1 (phrased 6 (0x4F ∷ 0x4B ∷ []) [] 0)) two-rows ≡ 0 ∷ 1 ∷ [])
-unfolding catalogue rows row text Groups.number groups halves everyBelow restriction readTree contentAt phraseAt propertyAt isSet zeros numberAt number le unitBytes says occurs occursAt standsAt startsWord endsWord someBelow numbersFrom
+unfolding catalogue rows row text Groups.number groups halves everyBelow restriction readTree contentAt phraseAt propertyAt setOurs zeroAt numberAt number le unitBytes says occurs occursAt standsAt startsWord endsWord someBelow numbersFrom
 texts-selected = (refl, refl)
 
 -- bytes that hold no tree select nothing

@@ -10,7 +10,7 @@ use lib.Dec.{leb, eqb}
 use lib.ListN.{length, getD}
 use Rattle.lists.proofs.Options.{none≢some, some-is, then-inv}
 use Rattle.tree.proofs.LeafLaws.{pick-inv}
-use Rattle.tree.specs.TreeLimits.{bytesMost, nodesMost, levelsMost}
+use Rattle.tree.specs.Limits.{bytesMost, nodesMost, levelsMost}
 use Rattle.lists.specs.Rising.{Rises, RisesIn}
 use Rattle.tree.specs.Tree.{Tree, positions, positionsIn, nodesOf, nodesIn, levelsOf, levelsIn}
 use Rattle.tree.specs.Reader.{TreeRead, readTree, whole, restriction}

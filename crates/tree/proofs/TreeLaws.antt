@@ -14,9 +14,10 @@ use Rattle.wire.specs.Word.{numberAt}
 use Rattle.lists.proofs.Below.{by-test}
 use Rattle.wire.proofs.Words.{rest}
 use Rattle.tree.specs.Tree.{Forest, end, further}
-use Rattle.wire.specs.Padding.{padding, zeros}
-use Rattle.tree.specs.Parts.{kindAt}
-use Rattle.tree.specs.Reader.{TreeRead, ForestRead, Read, readList, isBranch, joined, branchRead, negated, notRead, leafRead, readNode, readTree}
+use Rattle.wire.specs.Padding.{padding, zeroAt}
+use Rattle.tree.specs.Parts.{nodeKind}
+use Rattle.tree.specs.Reader.{TreeRead, ForestRead, Read, readList, joined, branchRead, negated, notRead, leafRead, readNode, readTree}
+use Rattle.tree.specs.Kinds.{isBranch}
 use Rattle.lists.specs.Options.{andThen}
 use Rattle.tree.specs.Answer.{nodeAnswer, nodeUsed, listAnswer, listUsed, notAnswer, branchAnswer, moreAnswer}
 use Rattle.tree.specs.declared.NodeRead.{NodeRead}
@@ -84,7 +85,7 @@ by-node zero nodes place s l n = absurd (l refl)
 by-node (suc levels) zero place s l n = absurd (n refl)
 by-node (suc levels) (suc nodes) place s l n = rw (one-less levels, one-less nodes)
 
-module _ (levels nodes place : ℕ) (s : List ℕ) (l : levels ≡ 0 → ⊥) (n : nodes ≡ 0 → ⊥) (h : 8 ≤ length s) (kind : ℕ) (k : kind ≡ kindAt s) where
+module _ (levels nodes place : ℕ) (s : List ℕ) (l : levels ≡ 0 → ⊥) (n : nodes ≡ 0 → ⊥) (h : 8 ≤ length s) (kind : ℕ) (k : kind ≡ nodeKind s) where
   pub node-branch : isBranch kind ≡ true → readTree levels nodes place s ≡ branchRead (readTree (levels - 1)) kind (nodes - 1) place s
   node-branch b = by-node levels nodes place s l n ∙ rw (le-leb 8 (length s) h, ← k, b)
 
@@ -100,9 +101,9 @@ rest-of read place s start k t =
     andThen (readList read k (t .nodes) (place + (start + t .used)) (drop (start + t .used) s)) (further-of t (start + t .used))
 
 abbrev padded : List ℕ → ℕ → Bool
-padded s start = both (leb start (length s)) (zeros s 0 start)
+padded s start = both (leb start (length s)) (zeroAt s 0 start)
 
-list-is : (read : Read) (count nodes place : ℕ) (s : List ℕ) (start : ℕ) → start ≡ padding place → (count ≡ 0 → ⊥)
+list-is : (read : Read) (count nodes place : ℕ) (s : List ℕ) (start : ℕ) → start ≡ padding 4 place → (count ≡ 0 → ⊥)
     → readList read count nodes place s
     ≡ pick (padded s start) (andThen (read nodes (place + start) (drop start s)) (rest-of read place s start (count - 1))) none
 unfolding readList
@@ -121,14 +122,14 @@ module _ (read : Read) (kind nodes place : ℕ) (s : List ℕ) where
   branch-list : (count at : ℕ) (u : List ℕ) → (count ≡ 0 → ⊥)
       → branchAnswer (listAnswer (readList read count nodes at u)) ≡ nodeAnswer (andThen (readList read count nodes at u) (joined kind))
   branch-list count at u n =
-      rw (list-is read count nodes at u (padding at) refl n)
-      (by-test (padded u (padding at)) (λ q. rw q (first (read nodes (at + padding at) (drop (padding at) u)))) (λ q. rw q))
+      rw (list-is read count nodes at u (padding 4 at) refl n)
+      (by-test (padded u (padding 4 at)) (λ q. rw q (first (read nodes (at + padding 4 at) (drop (padding 4 at) u)))) (λ q. rw q))
     where
       first : (o : Option TreeRead)
-          → let l = andThen o (rest-of read at u (padding at) (count - 1)) in branchAnswer (listAnswer l) ≡ nodeAnswer (andThen l (joined kind))
+          → let l = andThen o (rest-of read at u (padding 4 at) (count - 1)) in branchAnswer (listAnswer l) ≡ nodeAnswer (andThen l (joined kind))
       first none = refl
       first (some t) =
-          let next = padding at + t .used in joins kind t next (readList read (count - 1) (t .nodes) (at + next) (drop next u))
+          let next = padding 4 at + t .used in joins kind t next (readList read (count - 1) (t .nodes) (at + next) (drop next u))
 
   pub branch-by : (count : ℕ) (list : ListRead) → 12 ≤ length s → count ≡ numberAt 4 s 8 → (count ≡ 0 → ⊥)
       → list ≡ listAnswer (readList read count nodes (place + 12) (take (length s - 12) (drop 12 s)))
@@ -156,15 +157,15 @@ pub list-none : (read : Read) (count nodes place : ℕ) (s : List ℕ) → count
 unfolding readList
 list-none read count nodes place s e = rw e
 
-module _ (read : Read) (count nodes place : ℕ) (s : List ℕ) (start : ℕ) (p : start ≡ padding place) (n : count ≡ 0 → ⊥) where
+module _ (read : Read) (count nodes place : ℕ) (s : List ℕ) (start : ℕ) (p : start ≡ padding 4 place) (n : count ≡ 0 → ⊥) where
   pub list-short : length s < start → NoChildren ≡ listAnswer (readList read count nodes place s)
   list-short h = rw (list-is read count nodes place s start p n, lt-leb start (length s) h)
 
   module _ (h : start ≤ length s) where
-    pub list-unclear : zeros s 0 start ≡ false → NoChildren ≡ listAnswer (readList read count nodes place s)
+    pub list-unclear : zeroAt s 0 start ≡ false → NoChildren ≡ listAnswer (readList read count nodes place s)
     list-unclear z = rw (list-is read count nodes place s start p n, le-leb start (length s) h, z)
 
-    module _ (z : zeros s 0 start ≡ true) where
+    module _ (z : zeroAt s 0 start ≡ true) where
       pub list-bad : NoNode ≡ nodeAnswer (read nodes (place + start) (take (length s - start) (drop start s)))
           → NoChildren ≡ listAnswer (readList read count nodes place s)
       list-bad e =

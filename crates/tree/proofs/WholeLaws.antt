@@ -8,7 +8,7 @@ use borrow.Author.Tests.{le-leb, lt-leb}
 use lib.Dec.{eqb}
 use lib.ListN.{length}
 use Rattle.lists.proofs.Below.{by-test}
-use Rattle.tree.specs.TreeLimits.{bytesMost, nodesMost, levelsMost}
+use Rattle.tree.specs.Limits.{bytesMost, nodesMost, levelsMost}
 use Rattle.tree.specs.Reader.{TreeRead, readTree, restriction}
 use Rattle.tree.specs.Answer.{nodeAnswer, isTree}
 use Rattle.tree.specs.declared.NodeRead.the-variants.{Node, NoNode}

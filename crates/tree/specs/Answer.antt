@@ -2,9 +2,9 @@
 use mathlib.Core.Bool.{Bool, true, false}
 use mathlib.Core.Option.{Option, none, some}
 use Prim.Native.Nat.{ℕ, _+_}
-use Rattle.tree.specs.Parts.{headSize}
+use Rattle.tree.specs.Kinds.{headSize, listHead}
 use Rattle.tree.specs.Tree.{Tree}
-use Rattle.tree.specs.Reader.{TreeRead, ForestRead, listHead}
+use Rattle.tree.specs.Reader.{TreeRead, ForestRead}
 use Rattle.tree.specs.declared.NodeRead.{NodeRead}
 use Rattle.tree.specs.declared.NodeRead.the-variants.{Node, NoNode}
 use Rattle.tree.specs.declared.ListRead.{ListRead}

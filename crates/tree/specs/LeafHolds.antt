@@ -7,7 +7,7 @@ use lib.Dec.{leb, ltb, eqb}
 use Rattle.lists.specs.Below.{pick}
 use Rattle.catalogue.specs.Plain.{Row}
 use Rattle.tree.specs.Phrase.{occurs}
-use Rattle.wire.specs.PropertyAt.{ofNumbers, ofTexts}
+use Rattle.wire.specs.Property.{ofNumbers, ofTexts}
 use Rattle.tree.specs.Leaf.{Leaf, content, relation}
 
 -- "relations 0 to 5 (<, <=, >, >=, =, not equal), unsigned": the row's value, the relation, the tree's value

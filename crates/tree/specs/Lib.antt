@@ -1,11 +1,12 @@
 pub mod Phrase
-pub mod LeafLimits
+pub mod Limits
+pub mod Kinds
 pub mod Leaf
 pub mod LeafHolds
 pub mod Parts
+pub mod LeafPlaces
 pub mod Inside
 pub mod VerdictTold
-pub mod TreeLimits
 pub mod Tree
 pub mod TreeHolds
 pub mod Reader

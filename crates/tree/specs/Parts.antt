@@ -6,11 +6,11 @@ use lib.Dec.{leb, eqb}
 use lib.ListN.{length, take, drop}
 use Rattle.lists.specs.Below.{pick, both}
 use Rattle.wire.specs.Word.{numberAt, halves}
-use Rattle.wire.specs.Property.{isNumber, numberType, numberSize}
-use Rattle.tree.specs.LeafLimits.{phraseMost}
+use Rattle.wire.specs.Property.{isNumber, numberType, numberSize, isText}
+use Rattle.tree.specs.Limits.{phraseMost}
 use Rattle.tree.specs.Leaf.{Leaf, content, relation}
-use Rattle.wire.specs.Padding.{padding, zeros}
-use Rattle.wire.specs.PropertyAt.{isText, propertySize, propertyAt}
+use Rattle.wire.specs.Padding.{padding, zeroAt}
+use Rattle.wire.specs.PropertySpec.{specSize, propertyAt}
 use Rattle.tree.specs.declared.Content.{Content}
 use Rattle.tree.specs.declared.Parts.{Parts}
 use Rattle.tree.specs.declared.Parts.the-variants.{OfContent, OfRelation}
@@ -18,13 +18,11 @@ use Rattle.tree.specs.declared.PhraseAt.{PhraseAt}
 use Rattle.tree.specs.declared.PhraseAt.the-variants.{PhraseTo, NoPhrase}
 use Rattle.tree.specs.declared.LeafAt.{LeafAt}
 use Rattle.tree.specs.declared.LeafAt.the-variants.{LeafTo, NoLeaf}
+use Rattle.tree.specs.Kinds.{contentKind, propertyKind, headSize}
 
--- _ulType and Weight (source, 2.2.1.16); "Weight .. read and ignored"
-abbrev pub headSize : ℕ
-headSize = 8
-
-abbrev pub kindAt : List ℕ → ℕ
-kindAt s = numberAt 4 s 0
+-- _ulType
+abbrev pub nodeKind : List ℕ → ℕ
+nodeKind s = numberAt 4 s 0
 
 -- Padding1, Cc, _pwcsPhrase, Padding2, where Padding1 takes `before` bytes and Cc is `count`: where the units begin, how many they are,
 -- and where Lcid begins. "phrase of 1 to 64 units", "Padding is zero"
@@ -32,16 +30,16 @@ abbrev pub phraseSized : List ℕ → ℕ → ℕ → ℕ → ℕ → PhraseAt
 phraseSized s place at before count =
     let start = at + before + 4 in
     let end = start + 2 * count in
-    let after = padding (place + end) in
+    let after = padding 4 (place + end) in
     pick
     (both (leb (end + after) (length s))
-    (both (both (leb 1 count) (leb count phraseMost)) (both (zeros s at before) (zeros s end after))))
+    (both (both (leb 1 count) (leb count phraseMost)) (both (zeroAt s at before) (zeroAt s end after))))
     (PhraseTo start count (end + after))
     NoPhrase
 
 -- the phrase that begins, with its padding, at a place
 unfoldable pub phraseAt : List ℕ → ℕ → ℕ → PhraseAt
-phraseAt s place at = let before = padding (place + at) in phraseSized s place at before (numberAt 4 s (at + before))
+phraseAt s place at = let before = padding 4 (place + at) in phraseSized s place at before (numberAt 4 s (at + before))
 
 -- what is read of a phrase is handed on
 abbrev pub withPhrase : {A : Type 0} → PhraseAt → A → (ℕ → ℕ → ℕ → A) → A
@@ -49,33 +47,54 @@ withPhrase NoPhrase bad next = bad
 withPhrase (PhraseTo start count to) bad next = next start count to
 
 -- _Property, the phrase, Lcid, _ulGenerateMethod; "properties 5 and 6", "method 0 or 1"; "locale .. read and ignored"
+abbrev pub contentSpecAt : ℕ
+contentSpecAt = headSize
+
+abbrev pub phraseFrom : ℕ
+phraseFrom = contentSpecAt + specSize
+
 abbrev pub contentFrom : List ℕ → ℕ → ℕ → ℕ → LeafAt
 contentFrom s start count next =
     pick
-    (both (leb (next + 8) (length s)) (both (isText (propertyAt s headSize)) (leb (numberAt 4 s (next + 4)) 1)))
+    (both (leb (next + 8) (length s)) (both (isText (propertyAt s contentSpecAt)) (leb (numberAt 4 s (next + 4)) 1)))
     (LeafTo
-    (OfContent (record { property = propertyAt s headSize; start = start; count = count; method = numberAt 4 s (next + 4) }))
+    (OfContent (record { property = propertyAt s contentSpecAt; start = start; count = count; method = numberAt 4 s (next + 4) }))
     (next + 8))
     NoLeaf
 
 unfoldable pub contentAt : List ℕ → ℕ → LeafAt
-contentAt s place = withPhrase (phraseAt s place (headSize + propertySize)) NoLeaf (contentFrom s)
+contentAt s place = withPhrase (phraseAt s place phraseFrom) NoLeaf (contentFrom s)
 
--- _relop, _Property, then vType, vData1, vData2 and vValue (source, 2.2.1.1): "relations 0 to 5 .., properties 2 to 4, value type 0x0013,
--- its two data bytes zero"
+-- _relop, _Property, then vType, vData1 with vData2, and vValue (source, 2.2.1.1): "relations 0 to 5 .., properties 2 to 4, value type
+-- 0x0013, its two data bytes zero"
+abbrev pub relopAt : ℕ
+relopAt = headSize
+
+abbrev pub relationSpecAt : ℕ
+relationSpecAt = relopAt + 4
+
+abbrev pub valueTypeAt : ℕ
+valueTypeAt = relationSpecAt + specSize
+
+abbrev pub valueDataAt : ℕ
+valueDataAt = valueTypeAt + 2
+
+abbrev pub valueAt : ℕ
+valueAt = valueDataAt + 2
+
 abbrev pub relationSize : ℕ → ℕ
-relationSize property = 40 + numberSize property
+relationSize property = valueAt + numberSize property
 
 unfoldable pub relationAt : List ℕ → LeafAt
 relationAt s =
-    let property = propertyAt s 12 in
+    let property = propertyAt s relationSpecAt in
     pick
     (both (leb (relationSize property) (length s))
     (both
-    (both (leb (numberAt 4 s 8) 5) (isNumber property))
-    (both (eqb (numberAt 2 s 36) (numberType property)) (eqb (numberAt 2 s 38) 0))))
+    (both (leb (numberAt 4 s relopAt) 5) (isNumber property))
+    (both (eqb (numberAt 2 s valueTypeAt) (numberType property)) (eqb (numberAt 2 s valueDataAt) 0))))
     (LeafTo
-    (OfRelation (record { relop = numberAt 4 s 8; property = property; value = numberAt (numberSize property) s 40 }))
+    (OfRelation (record { relop = numberAt 4 s relopAt; property = property; value = numberAt (numberSize property) s valueAt }))
     (relationSize property))
     NoLeaf
 
@@ -84,7 +103,7 @@ abbrev pub leafAt : ℕ → List ℕ → ℕ → LeafAt
 leafAt kind s place =
     let content = contentAt s place in
     let relation = relationAt s in
-    pick (eqb kind 4) content (pick (eqb kind 5) relation NoLeaf)
+    pick (eqb kind contentKind) content (pick (eqb kind propertyKind) relation NoLeaf)
 
 -- what is read of a leaf is handed on, with the bytes that it takes
 abbrev pub withLeaf : {A : Type 0} → LeafAt → A → (Parts → ℕ → A) → A

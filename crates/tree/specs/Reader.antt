@@ -1,17 +1,17 @@
 -- The reader of a restriction tree (01, "Restriction trees"; source, 2.2.1.7 and 2.2.1.16): a list of bytes to a tree, or to nothing.
 -- Each reader is handed what is unread, with the place of its first byte counted from the tree's origin, and says how many bytes it used.
-use mathlib.Core.Bool.{Bool}
 use mathlib.Core.List.{List}
 use mathlib.Core.Option.{Option, none, some}
 use Prim.Native.Nat.{ℕ, zero, suc, _+_}
 use lib.Dec.{leb, eqb}
 use lib.ListN.{length, drop}
-use Rattle.lists.specs.Below.{pick, both, either}
+use Rattle.lists.specs.Below.{pick, both}
 use Rattle.wire.specs.Word.{numberAt}
-use Rattle.tree.specs.TreeLimits.{bytesMost, nodesMost, levelsMost}
+use Rattle.tree.specs.Limits.{bytesMost, nodesMost, levelsMost}
 use Rattle.tree.specs.Tree.{Tree, Forest, leaf, and, or, not, end, further}
-use Rattle.wire.specs.Padding.{padding, zeros}
-use Rattle.tree.specs.Parts.{headSize, kindAt, leafAt, withLeaf, leafOf}
+use Rattle.wire.specs.Padding.{padding, zeroAt}
+use Rattle.tree.specs.Parts.{nodeKind, leafAt, withLeaf, leafOf}
+use Rattle.tree.specs.Kinds.{headSize, listHead, isBranch, andKind, notKind}
 use Rattle.lists.specs.Options.{andThen}
 
 -- what was read: the tree or the children, the bytes that they take, and how many nodes may still come
@@ -33,24 +33,18 @@ Read = ℕ → ℕ → List ℕ → Option TreeRead
 unfoldable pub readList : Read → ℕ → ℕ → ℕ → List ℕ → Option ForestRead
 readList read zero nodes place s = some (record { forest = end; used = 0; nodes = nodes })
 readList read (suc k) nodes place s =
-    let start = padding place in
+    let start = padding 4 place in
     let children : Option ForestRead = andThen (read nodes (place + start) (drop start s)) λ t.
     let next = start + t .used in
     andThen (readList read k (t .nodes) (place + next) (drop next s)) λ f.
     some (record { forest = further (t .tree) (f .forest); used = next + f .used; nodes = f .nodes }) in
-    pick (both (leb start (length s)) (zeros s 0 start)) children none
+    pick (both (leb start (length s)) (zeroAt s 0 start)) children none
 
 -- "and 1, or 2": _cNode, then the children; "And/or have at least one child"
-abbrev pub listHead : ℕ
-listHead = 12
-
-abbrev pub isBranch : ℕ → Bool
-isBranch kind = either (eqb kind 1) (eqb kind 2)
-
 abbrev pub joined : ℕ → ForestRead → Option TreeRead
 joined kind r = elim (r .forest) [
   | end ↦ none
-  | further t f ↦ some (record { tree = pick (eqb kind 1) (and t f) (or t f); used = listHead + r .used; nodes = r .nodes })
+  | further t f ↦ some (record { tree = pick (eqb kind andKind) (and t f) (or t f); used = listHead + r .used; nodes = r .nodes })
 ]
 
 abbrev pub branchRead : Read → ℕ → Read
@@ -74,11 +68,11 @@ leafRead kind nodes place s =
 -- "each node a restriction whose kind decides what follows": a node whose children are read by `read`
 abbrev pub readNode : Read → Read
 readNode read nodes place s =
-    let kind = kindAt s in
+    let kind = nodeKind s in
     let branch = branchRead read kind nodes place s in
     let negation = notRead read nodes place s in
     let own = leafRead kind nodes place s in
-    let node = pick (isBranch kind) branch (pick (eqb kind 3) negation own) in
+    let node = pick (isBranch kind) branch (pick (eqb kind notKind) negation own) in
     pick (leb headSize (length s)) node none
 
 -- a tree of so many levels and nodes at most

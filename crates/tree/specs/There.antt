@@ -8,7 +8,7 @@ use Rattle.catalogue.specs.Plain.{Row}
 use Rattle.tree.specs.Parts.{leafAt}
 use Rattle.tree.specs.declared.Parts.{Parts}
 use Rattle.tree.specs.declared.LeafAt.the-variants.{LeafTo}
-use Rattle.tree.specs.TreeLimits.{bytesMost}
+use Rattle.tree.specs.Limits.{bytesMost}
 use Rattle.tree.specs.TreeHolds.{holds}
 use Rattle.tree.specs.Reader.{TreeRead, Read, branchRead, readTree}
 use Rattle.tree.specs.VerdictTold.{told}

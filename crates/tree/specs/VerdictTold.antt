@@ -3,6 +3,7 @@ use mathlib.Core.Bool.{Bool}
 use Prim.Native.Nat.{ℕ, _+_, _-_, _*_, _%_}
 use lib.Dec.{eqb}
 use Rattle.lists.specs.Below.{pick, both, either}
+use Rattle.tree.specs.Kinds.{andKind}
 
 -- twice the place after a node, and one more where it holds
 abbrev pub told : Bool → ℕ → ℕ
@@ -14,4 +15,4 @@ turned answer = pick (eqb (answer % 2) 1) (answer - 1) (answer + 1)
 
 -- an and holds where it held so far and one child more does, an or where one of the two does
 abbrev pub withChild : ℕ → Bool → Bool → Bool
-withChild kind before child = pick (eqb kind 1) (both before child) (either before child)
+withChild kind before child = pick (eqb kind andKind) (both before child) (either before child)

@@ -2,18 +2,11 @@
 ghost use mathlib.Core.Path.{_≡_};
 ghost use Rattle.wire.specs.Word.{halves};
 ghost use Rattle.catalogue.specs.Places.{textOf};
-ghost use Rattle.wire.specs.PropertyAt.{ofNumbers, ofTexts};
+ghost use Rattle.wire.specs.Property.{ofNumbers, ofTexts};
 ghost use Rattle.tree.specs.LeafHolds.{relationHolds, phraseHolds};
 ghost use Rattle.tree.specs.Inside.{TextInside};
 use catalogue::Fields;
 use catalogue::Text;
-
-// The properties that the code tells apart.
-const KEY: u32 = 2;
-
-const LANGUAGE: u32 = 3;
-
-const LABEL: u32 = 5;
 
 // Whether the row's value has the relation to the tree's.
 pub fn relation_holds(relop: u32, mine: u64, yours: u64) -> bool
@@ -34,8 +27,8 @@ pub fn number_of(property: u32, row: Fields) -> u64
     ensures { λ r. ⌜ r ≡ ofNumbers property (row .key) (row .language) (row .default) ⌝ }
 {
     match property {
-        KEY => row.key,
-        LANGUAGE => row.language,
+        wire::KEY => row.key,
+        wire::LANGUAGE => row.language,
         _ => row.default,
     }
 }
@@ -44,7 +37,7 @@ pub fn number_of(property: u32, row: Fields) -> u64
 pub fn text_of(property: u32, row: Fields) -> Text
     ensures { λ r. ⌜ r ≡ ofTexts property (row .label) (row .note) ⌝ }
 {
-    if property == LABEL {
+    if property == wire::LABEL {
         return row.label;
     }
     row.note

@@ -2,23 +2,13 @@
 ghost use mathlib.Core.Path.{_≡_};
 ghost use Prim.Native.Nat.{_+_, _^_, _≤_, _<_};
 ghost use lib.ListN.{length};
-ghost use Rattle.tree.specs.Reader.{leafRead, branchRead, readTree, readList, isBranch};
+ghost use Rattle.tree.specs.Reader.{leafRead, branchRead, readTree, readList};
+ghost use Rattle.tree.specs.Kinds.{isBranch};
+ghost use Rattle.tree.specs.Kinds.{isBranch};
 ghost use Rattle.tree.specs.Answer.{nodeAnswer, nodeUsed, listAnswer, listUsed, notAnswer, branchAnswer, moreAnswer};
 use tree::LeafAt;
 use tree::ListRead;
 use tree::NodeRead;
-
-// The kinds of a node that has children.
-const AND: u32 = 1;
-
-const OR: u32 = 2;
-
-const NOT: u32 = 3;
-
-// The bytes of a node before its child, and before a list of children.
-const HEAD_SIZE: usize = 8;
-
-const LIST_HEAD: usize = 12;
 
 // A leaf as a node.
 fn leaf_node(kind: u32, unread: &[u8], place: usize, nodes: u32) -> NodeRead
@@ -36,10 +26,10 @@ fn leaf_node(kind: u32, unread: &[u8], place: usize, nodes: u32) -> NodeRead
 pub fn is_branch(kind: u32) -> bool
     ensures { λ r. ⌜ r ≡ isBranch kind ⌝ }
 {
-    if kind == AND {
+    if kind == tree::AND {
         return true;
     }
-    kind == OR
+    kind == tree::OR
 }
 
 // What a not makes of its child.
@@ -50,7 +40,7 @@ fn negated(child: NodeRead) -> NodeRead
     let NodeRead::Node(used, left) = child else {
         return NodeRead::NoNode;
     };
-    let taken = HEAD_SIZE + used;
+    let taken = tree::HEAD_SIZE + used;
     NodeRead::Node(taken, left)
 }
 
@@ -62,7 +52,7 @@ fn joined(list: ListRead) -> NodeRead
     let ListRead::Children(used, left) = list else {
         return NodeRead::NoNode;
     };
-    let taken = LIST_HEAD + used;
+    let taken = tree::LIST_HEAD + used;
     NodeRead::Node(taken, left)
 }
 
@@ -90,7 +80,7 @@ pub fn node(unread: &[u8], place: usize, levels: u32, nodes: u32) -> NodeRead
     if nodes == 0 {
         return NodeRead::NoNode;
     }
-    if unread.len() < HEAD_SIZE {
+    if unread.len() < tree::HEAD_SIZE {
         return NodeRead::NoNode;
     }
     let kind = wire_word::word(unread, 0);
@@ -99,9 +89,9 @@ pub fn node(unread: &[u8], place: usize, levels: u32, nodes: u32) -> NodeRead
     if is_branch(kind) {
         return branch(unread, place, below, left);
     }
-    if kind == NOT {
-        let child = &unread[HEAD_SIZE..];
-        let at = place + HEAD_SIZE;
+    if kind == tree::NOT {
+        let child = &unread[tree::HEAD_SIZE..];
+        let at = place + tree::HEAD_SIZE;
         return negated(node(child, at, below, left));
     }
     leaf_node(kind, unread, place, left)
@@ -113,15 +103,15 @@ fn branch(unread: &[u8], place: usize, levels: u32, nodes: u32) -> NodeRead
     ensures { λ r. ⌜ r ≡ nodeAnswer (branchRead (readTree levels) 1 nodes place (now (unread .entry))) ⌝ }
     ensures { λ r. ⌜ nodeUsed r ≤ length (now (unread .entry)) ⌝ }
 {
-    if unread.len() < LIST_HEAD {
+    if unread.len() < tree::LIST_HEAD {
         return NodeRead::NoNode;
     }
-    let listed = wire_word::word(unread, HEAD_SIZE);
+    let listed = wire_word::word(unread, tree::HEAD_SIZE);
     if listed == 0 {
         return NodeRead::NoNode;
     }
-    let list = &unread[LIST_HEAD..];
-    let at = place + LIST_HEAD;
+    let list = &unread[tree::LIST_HEAD..];
+    let at = place + tree::LIST_HEAD;
     joined(children(list, at, listed, levels, nodes))
 }
 
@@ -134,11 +124,11 @@ fn children(unread: &[u8], place: usize, count: u32, levels: u32, nodes: u32) ->
     if count == 0 {
         return ListRead::Children(0, nodes);
     }
-    let start = tree_leaf::padding(place);
+    let start = wire_field::padding(4, place);
     if unread.len() < start {
         return ListRead::NoChildren;
     }
-    if !tree_leaf::zeros(unread, 0, start) {
+    if !wire_field::zeros(unread, 0, start) {
         return ListRead::NoChildren;
     }
     let part = &unread[start..];

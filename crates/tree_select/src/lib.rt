@@ -29,7 +29,7 @@ pub fn select(
     tree: &[u8],
     catalogue: &[u8],
     rows: u32,
-    places: &[u32; 1024],
+    places: &[u32; catalogue::ROWS_MOST],
     into: &mut [u32],
 ) -> u32
     requires { ⌜ (isTree (restriction (now tree)) ≡ true) × Noted (now catalogue) rows (now places) × (rowsMost ≤ length (now into)) ⌝ }

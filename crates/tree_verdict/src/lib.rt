@@ -3,9 +3,6 @@ ghost use mathlib.Core.Path.{_≡_};
 ghost use Prim.Native.Nat.{_^_, _<_};
 ghost use Rattle.tree.specs.VerdictTold.{told, turned, withChild};
 
-// The kind of an and.
-const AND: u32 = 1;
-
 // A node's answer in one number, since two would be passed in memory: twice the place after the node, and one more where it holds.
 pub fn told(holds: bool, end: usize) -> usize
     requires { ⌜ end < 2 ^ 63 ⌝ }
@@ -32,8 +29,8 @@ pub fn turned(answer: usize) -> usize
 pub fn with_child(kind: u32, before: bool, child: bool) -> bool
     ensures { λ r. ⌜ r ≡ withChild kind before child ⌝ }
 {
-    if kind == AND {
-        return tree_leaf::both(before, child);
+    if kind == tree::AND {
+        return lists_test::both(before, child);
     }
     if before {
         return true;

@@ -1,6 +1,6 @@
 pub mod Words
 pub mod Halves
-pub mod Fields
+pub mod FieldLaws
 pub mod Sums
 pub mod Vectors
 pub mod Lay

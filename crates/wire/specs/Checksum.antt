@@ -7,13 +7,7 @@ use lib.Bits.{bitXor}
 use lib.ListN.{length, drop}
 use Rattle.lists.specs.Below.{both, pick}
 use Rattle.wire.specs.Word.{numberAt}
-
--- the header's size, and the sizes of a message that refusal 5 lets pass
-abbrev pub headerSize : ℕ
-headerSize = 16
-
-abbrev pub messageMost : ℕ
-messageMost = 16384
+use Rattle.wire.specs.Header.{headerSize, messageMost}
 
 -- a size that refusal 5, "message under 16 or over 16,384 bytes", lets pass
 abbrev pub messageSized : List ℕ → Bool

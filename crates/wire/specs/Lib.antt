@@ -1,7 +1,8 @@
 pub mod Word
-pub mod Fields
+pub mod Header
 pub mod Checksum
-pub mod Laid
-pub mod Property
 pub mod Padding
-pub mod PropertyAt
+pub mod Property
+pub mod PropertySpec
+pub mod FieldPlaces
+pub mod Laid

@@ -1,8 +1,8 @@
 -- The properties, and the types and sizes of their cells (01, "The option catalogue" and "Bindings").
 use mathlib.Core.Bool.{Bool}
 use Prim.Native.Nat.{ℕ}
-use lib.Dec.{leb, eqb}
-use Rattle.lists.specs.Below.{pick, both}
+use lib.Dec.{eqb}
+use Rattle.lists.specs.Below.{pick, both, within}
 
 -- "property numbers 2 key, 3 language, 4 default, 5 label, 6 note"
 abbrev pub keyProperty : ℕ
@@ -19,10 +19,6 @@ labelProperty = 5
 
 abbrev pub noteProperty : ℕ
 noteProperty = 6
-
--- a number is one of those from low to high
-abbrev pub within : ℕ → ℕ → ℕ → Bool
-within low high n = both (leb low n) (leb n high)
 
 -- "property unknown"
 abbrev pub known : ℕ → Bool
@@ -57,3 +53,14 @@ statusSize = 1
 
 abbrev pub lengthSize : ℕ
 lengthSize = 4
+
+-- "properties 5 and 6"
+abbrev pub isText : ℕ → Bool
+isText property = within labelProperty noteProperty property
+
+-- of what a row has for each of its numbers, and for each of its texts, what it has for the property
+abbrev pub ofNumbers : {A : Type 0} → ℕ → A → A → A → A
+ofNumbers property key language default = pick (eqb property keyProperty) key (pick (eqb property languageProperty) language default)
+
+abbrev pub ofTexts : {A : Type 0} → ℕ → A → A → A
+ofTexts property label note = pick (eqb property labelProperty) label note

@@ -2,11 +2,8 @@
 ghost use mathlib.Core.Path.{_≡_};
 ghost use Prim.Native.Nat.{_≤_};
 ghost use lib.ListN.{length};
-ghost use Rattle.wire.specs.Checksum.{bodySum, checksum, checksumTold, headerSize, messageMost};
-
-pub const HEADER_SIZE: usize = 16;
-
-pub const MESSAGE_MOST: usize = 16384;
+ghost use Rattle.wire.specs.Checksum.{bodySum, checksum, checksumTold};
+ghost use Rattle.wire.specs.Header.{headerSize, messageMost};
 
 const NO_CHECKSUM: u64 = 0x1_0000_0000;
 
@@ -34,7 +31,7 @@ fn checksum_of(message: &[u8]) -> u64
     requires { ⌜ (headerSize ≤ length (now message)) × (length (now message) ≤ messageMost) ⌝ }
     ensures { λ r. ⌜ r ≡ checksum (now (message .entry)) ⌝ }
 {
-    let sum = body_sum(&message[HEADER_SIZE..]);
+    let sum = body_sum(&message[wire::HEADER_SIZE..]);
     let low = (sum % 0x1_0000_0000) as u32;
     let mixed = (low ^ 0x5953_3959) as u64;
     let number = wire_word::word(message, 0) as u64;
@@ -45,10 +42,10 @@ fn checksum_of(message: &[u8]) -> u64
 pub fn checksum(message: &[u8]) -> u64
     ensures { λ r. ⌜ r ≡ checksumTold (now (message .entry)) ⌝ }
 {
-    if message.len() < HEADER_SIZE {
+    if message.len() < wire::HEADER_SIZE {
         return NO_CHECKSUM;
     }
-    if MESSAGE_MOST < message.len() {
+    if wire::MESSAGE_MOST < message.len() {
         return NO_CHECKSUM;
     }
     checksum_of(message)

@@ -1,26 +1,15 @@
-// The fields of a message, each read at a place counted from the message's first byte: padding, numbers, flags and properties.
+// The fields of a message and of a tree, each read at a place counted from the first byte: padding, numbers, flags and properties.
 ghost use mathlib.Core.Path.{_≡_};
 ghost use Prim.Native.Nat.{_+_, _%_, _≤_, _<_};
 ghost use lib.Dec.{leb};
 ghost use lib.ListN.{length};
-ghost use Rattle.wire.specs.Fields.{paddedOn, numberOn, flagOn, setSize, setOurs, propertyOn};
+ghost use Rattle.wire.specs.Padding.{padding, zeroAt};
+ghost use Rattle.wire.specs.PropertySpec.{setSize, specSize, setOurs, named, propertyAt};
+ghost use Rattle.wire.specs.FieldPlaces.{paddedOn, numberOn, flagOn, propertyOn};
 use wire::NumberRead;
 use wire::PlaceRead;
 
-// A full property: the set identifier, the kind of what follows, and the property's number.
-const SET_SIZE: usize = 16;
-
-const SET_FIRST: usize = 0x10;
-
-const KIND_AT: usize = SET_SIZE;
-
-const NUMBERED: u32 = 1;
-
-const PROPERTY_AT: usize = KIND_AT + 4;
-
-const SPEC_SIZE: usize = PROPERTY_AT + 4;
-
-// Whether n bytes from a place on end within a length.
+// Whether so many bytes from a place on end within a size.
 fn room(size: usize, at: usize, count: usize) -> bool
     ensures { λ r. ⌜ r ≡ leb (at + count) size ⌝ }
 {
@@ -30,23 +19,40 @@ fn room(size: usize, at: usize, count: usize) -> bool
     at <= size - count
 }
 
+// How many bytes stand between a place and the next multiple of a unit.
+pub fn padding(unit: usize, place: usize) -> usize
+    requires { ⌜ 0 < unit ⌝ }
+    ensures { λ r. ⌜ r ≡ padding unit place ⌝ }
+{
+    (unit - place % unit) % unit
+}
+
+// Whether so many bytes from a place on are zero.
+pub fn zeros(bytes: &[u8], at: usize, count: usize) -> bool
+    requires { ⌜ at + count ≤ length (now bytes) ⌝ }
+    ensures { λ r. ⌜ r ≡ zeroAt (now (bytes .entry)) at count ⌝ }
+{
+    let mut i = 0;
+    while i < count {
+        if bytes[at + i] != 0 {
+            return false;
+        }
+        i += 1;
+    }
+    true
+}
+
 // The next multiple of a unit, with zero bytes up to it.
 pub fn padded_on(message: &[u8], at: usize, unit: usize) -> PlaceRead
     requires { ⌜ 0 < unit ⌝ }
     ensures { λ r. ⌜ r ≡ paddedOn unit (now (message .entry)) at ⌝ }
 {
-    let over = at % unit;
-    let pad = (unit - over) % unit;
+    let pad = padding(unit, at);
     if !room(message.len(), at, pad) {
         return PlaceRead::Malformed;
     }
-    let mut i = 0;
-    while i < pad {
-        let place = at + i;
-        if message[place] != 0 {
-            return PlaceRead::Malformed;
-        }
-        i += 1;
+    if !zeros(message, at, pad) {
+        return PlaceRead::Malformed;
     }
     let next = at + pad;
     PlaceRead::Place(next)
@@ -85,15 +91,13 @@ pub fn flag_on(message: &[u8], at: usize) -> NumberRead
 }
 
 // Whether the sixteen bytes at a place are our set identifier.
-fn set_ours(message: &[u8], at: usize) -> bool
-    requires { ⌜ at + setSize ≤ length (now message) ⌝ }
-    ensures { λ r. ⌜ r ≡ setOurs (now (message .entry)) at ⌝ }
+fn set_ours(bytes: &[u8], at: usize) -> bool
+    requires { ⌜ at + setSize ≤ length (now bytes) ⌝ }
+    ensures { λ r. ⌜ r ≡ setOurs (now (bytes .entry)) at ⌝ }
 {
     let mut i = 0;
-    while i < SET_SIZE {
-        let place = at + i;
-        let byte = message[place] as usize;
-        if byte != SET_FIRST + i {
+    while i < wire::SET_SIZE {
+        if bytes[at + i] as usize != wire::SET_FIRST + i {
             return false;
         }
         i += 1;
@@ -101,21 +105,39 @@ fn set_ours(message: &[u8], at: usize) -> bool
     true
 }
 
-// The property of a column, 0 where it is of another set.
+// The number of the property that is named at a place, 0 where it is of another set.
+fn named(bytes: &[u8], at: usize) -> u32
+    requires { ⌜ at + specSize ≤ length (now bytes) ⌝ }
+    ensures { λ r. ⌜ r ≡ named (now (bytes .entry)) at ⌝ }
+{
+    if set_ours(bytes, at) {
+        return wire_word::word(bytes, at + wire::PR_SPEC_AT);
+    }
+    0
+}
+
+// The property of a leaf, 0 where it is not one of ours.
+pub fn property(bytes: &[u8], at: usize) -> u32
+    requires { ⌜ at + specSize ≤ length (now bytes) ⌝ }
+    ensures { λ r. ⌜ r ≡ propertyAt (now (bytes .entry)) at ⌝ }
+{
+    if wire_word::word(bytes, at + wire::KIND_AT) == wire::NUMBERED {
+        return named(bytes, at);
+    }
+    0
+}
+
+// The property of a column.
 pub fn property_on(message: &[u8], at: usize) -> NumberRead
     ensures { λ r. ⌜ r ≡ propertyOn (now (message .entry)) at ⌝ }
 {
-    if !room(message.len(), at, SPEC_SIZE) {
+    if !room(message.len(), at, wire::SPEC_SIZE) {
         return NumberRead::Malformed;
     }
-    let next = at + SPEC_SIZE;
-    let kind = wire_word::word(message, at + KIND_AT);
-    if kind != NUMBERED {
+    let next = at + wire::SPEC_SIZE;
+    let kind = wire_word::word(message, at + wire::KIND_AT);
+    if kind != wire::NUMBERED {
         return NumberRead::Malformed;
     }
-    if !set_ours(message, at) {
-        return NumberRead::Number(0, next);
-    }
-    let property = wire_word::word(message, at + PROPERTY_AT);
-    NumberRead::Number(property, next)
+    NumberRead::Number(named(message, at), next)
 }

@@ -33,7 +33,7 @@ returns-3 c =
     let a = c .before .before .before .before .before .before .before .before .args in
     judged-by (a .table .now) (a .bytes .now) (a .seat) 3 _ _
     (rows-refused (a .bytes .now) (a .table .now) (a .seat) (c .before .before .before .before .before .if1 .left) (sym (c .before .before .before .before .well .ensures) ∙ not-false _ (c .before .before .before .if2 .left))
-    (no-rows (a .bytes .now) (a .table .now) (λ e. c .if3 .taken (ap (λ (k : Checked). k .refusal) (c .before .check .ensures .0) ∙ e))))
+    (no-rows (a .bytes .now) (a .table .now) (λ e. c .if3 .taken (ap (λ (k : Checked). k .refusal) (c .before .check .ensures .answered) ∙ e))))
     (λ z. omega arith)
 
 below-requires : tie.Need-below-requires
@@ -44,8 +44,8 @@ returns-4 c =
     let a = c .before .before .before .before .before .before .before .before .before .before .args in
     judged-by (a .table .now) (a .bytes .now) (a .seat) 3 _ _
     (rows-refused (a .bytes .now) (a .table .now) (a .seat) (c .before .before .before .before .before .before .before .if1 .left) (sym (c .before .before .before .before .before .before .well .ensures) ∙ not-false _ (c .before .before .before .before .before .if2 .left))
-    (rows-hold (a .bytes .now) (a .table .now) (sym (ap (λ (k : Checked). k .refusal) (c .before .before .before .check .ensures .0)) ∙ c .before .before .if3 .left)
-    ∙ ap (λ (n : ℕ). tableBelow n (a .table .now)) (sym (ap (λ (k : Checked). k .rows) (c .before .before .before .check .ensures .0)))
+    (rows-hold (a .bytes .now) (a .table .now) (sym (ap (λ (k : Checked). k .refusal) (c .before .before .before .check .ensures .answered)) ∙ c .before .before .if3 .left)
+    ∙ ap (λ (n : ℕ). tableBelow n (a .table .now)) (sym (ap (λ (k : Checked). k .rows) (c .before .before .before .check .ensures .answered)))
     ∙ sym (c .before .below .ensures)
     ∙ not-true _ (c .if4 .taken)))
     (λ z. omega arith)
@@ -55,12 +55,12 @@ returns-5 c =
     let a = c .before .before .before .before .before .before .before .before .before .before .args in
     judged-none (a .table .now) (a .bytes .now) (a .seat) _ _ _
     (none-refused (a .bytes .now) (a .table .now) (a .seat) (c .before .before .before .before .before .before .before .if1 .left) (sym (c .before .before .before .before .before .before .well .ensures) ∙ not-false _ (c .before .before .before .before .before .if2 .left))
-    (rows-hold (a .bytes .now) (a .table .now) (sym (ap (λ (k : Checked). k .refusal) (c .before .before .before .check .ensures .0)) ∙ c .before .before .if3 .left)
-    ∙ ap (λ (n : ℕ). tableBelow n (a .table .now)) (sym (ap (λ (k : Checked). k .rows) (c .before .before .before .check .ensures .0)))
+    (rows-hold (a .bytes .now) (a .table .now) (sym (ap (λ (k : Checked). k .refusal) (c .before .before .before .check .ensures .answered)) ∙ c .before .before .if3 .left)
+    ∙ ap (λ (n : ℕ). tableBelow n (a .table .now)) (sym (ap (λ (k : Checked). k .rows) (c .before .before .before .check .ensures .answered)))
     ∙ sym (c .before .below .ensures)
     ∙ not-false _ (c .if4 .left)))
-    (ap (λ (k : Checked). k .rows) (c .before .before .before .check .ensures .0))
-    (c .before .before .before .check .ensures .1)
+    (ap (λ (k : Checked). k .rows) (c .before .before .before .check .ensures .answered))
+    (c .before .before .before .check .ensures .placed)
 
 pub judge-spec : {M : Type 1} → statement M
 judge-spec =

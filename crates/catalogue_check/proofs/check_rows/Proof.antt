@@ -35,10 +35,11 @@ returns : tie.Need-returns Inv-loop μ-loop
 returns c =
     let l = c .before .before .before .loop in
     let s = c .before .before .before .before .before .args .catalogue .now in
-    let e = row-gone s (l .at) (sym (c .before .row-end .ensures) ∙ c .if1 .taken) in (
-      sym (rows-bad (l .left) s (l .at) (l .places) (l .i) (search needs) e) ∙ l .inv .2,
-      sym (places-bad (l .left) s (l .at) (l .places) (l .i) (search needs) e) ∙ l .inv .3,
-    )
+    let e = row-gone s (l .at) (sym (c .before .row-end .ensures) ∙ c .if1 .taken) in
+    record {
+      ended = sym (rows-bad (l .left) s (l .at) (l .places) (l .i) (search needs) e) ∙ l .inv .2;
+      placed = sym (places-bad (l .left) s (l .at) (l .places) (l .i) (search needs) e) ∙ l .inv .3;
+    }
 
 add-i : tie.Need-add-i Inv-loop μ-loop
 add-i c = search needs
@@ -66,10 +67,11 @@ loop-again c =
 returns-2 : tie.Need-returns-2 Inv-loop μ-loop
 returns-2 c =
     let l = c .before .loop in
-    let s = c .before .before .before .args .catalogue .now in (
-      sym (rows-none (l .left) s (l .at) (search needs)) ∙ l .inv .2,
-      sym (places-none (l .left) s (l .at) (l .places) (l .i) (search needs)) ∙ l .inv .3,
-    )
+    let s = c .before .before .before .args .catalogue .now in
+    record {
+      ended = sym (rows-none (l .left) s (l .at) (search needs)) ∙ l .inv .2;
+      placed = sym (places-none (l .left) s (l .at) (l .places) (l .i) (search needs)) ∙ l .inv .3;
+    }
 
 pub check-rows-spec : {M : Type 1} → statement M
 check-rows-spec =

@@ -13,6 +13,9 @@ returns-2 c = let a = c .before .before .args in high (a .reserved) (a .size) (a
 returns-3 : tie.Need-returns-3
 returns-3 c = let a = c .before .before .before .args in small (a .reserved) (a .size) (a .base) (a .backward) (c .if3 .taken)
 
+cast-most : tie.Need-cast-most
+cast-most c = search needs
+
 returns-4 : tie.Need-returns-4
 returns-4 c = let a = c .before .before .before .before .args in large (a .reserved) (a .size) (a .base) (a .backward) (c .if4 .taken)
 
@@ -31,4 +34,4 @@ returns-7 c = let a = c .before .before .before .before .before .before .args in
 pub in-range-spec : {M : Type 1} → statement M
 in-range-spec =
     tie.close
-    (tie.spec returns returns-2 returns-3 returns-4 returns-5 add-if6 returns-6 returns-7)
+    (tie.spec returns returns-2 returns-3 cast-most returns-4 returns-5 add-if6 returns-6 returns-7)

@@ -7,7 +7,7 @@ use Rattle.page.proofs.Whole.{page-whole}
 use Rattle.page.proofs.Greatest.{returned-few}
 use Rattle.page.proofs.ColumnsBound.{bound-few, bound-in}
 use Rattle.page.specs.Rows.{rowsAt}
-use Rattle.page.specs.Page.{rowsMessage}
+use Rattle.wire.specs.Header.{getRowsMsg}
 use Rattle.bindings.specs.Column.{columnsOf}
 use native.Mathlib.Omega.{arith}
 use Rattle.wire.specs.Laid.{lay, header}
@@ -56,7 +56,7 @@ returns c = let a = c .before .before .before .before .before .before .before .b
   page-whole (a .size) (a .from) (a .width) (a .base) (a .asked) (columnsOf (a .bound) (a .records .now)) (rowsAt (a .catalogue .now) (a .places .now) (a .numbers .now)) (p .fits) (p .head) (p .inside) (a .reply .now) (p .ends)
       (c .before .before .before .before .before .before .before .before .before .before .before .lay-rows .result) _ (c .before .before .before .before .before .before .before .before .before .before .before .lay-rows .ensures .0)
       (c .before .before .before .before .before .before .before .before .before .before .before .before .before .before .before .clear-first .last .0) (c .before .before .before .before .before .before .before .before .before .before .before .lay-rows .last .0) (c .before .before .before .before .before .before .before .lay-four .last .0) (c .before .before .lay-header .last .0)
-      (c .before .before .before .before .before .before .before .before .before .before .before .before .before .before .before .clear-first .ensures) (c .before .before .before .before .before .before .before .before .before .before .before .lay-rows .ensures .1) (c .before .before .before .before .before .before .before .lay-four .ensures) (c .before .before .lay-header .ensures ∙ ap (λ (n : ℕ). lay (c .before .before .before .before .before .before .before .lay-four .last .0) 0 (header rowsMessage n .bytes)) (c .before .before .before .before .status-for .ensures)),
+      (c .before .before .before .before .before .before .before .before .before .before .before .before .before .before .before .clear-first .ensures) (c .before .before .before .before .before .before .before .before .before .before .before .lay-rows .ensures .1) (c .before .before .before .before .before .before .before .lay-four .ensures) (c .before .before .lay-header .ensures ∙ ap (λ (n : ℕ). lay (c .before .before .before .before .before .before .before .lay-four .last .0) 0 (header getRowsMsg n .bytes)) (c .before .before .before .before .status-for .ensures)),
 )
 
 pub page-spec : {M : Type 1} → statement M

@@ -13,7 +13,7 @@ use Rattle.tree_hold.proofs.leaf_told.Reads as leaf-told-reads
 use Rattle.tree_verdict.proofs.told.Reads as told-reads
 use Rattle.tree_verdict.proofs.turned.Reads as turned-reads
 use Rattle.tree_verdict.proofs.with_child.Reads as with-child-reads
-use Rattle.tree_leaf.proofs.padding.Reads as padding-reads
+use Rattle.wire_field.proofs.padding.Reads as padding-reads
 use Rattle.tree_node.proofs.is_branch.Reads as is-branch-reads
 use Rattle.wire_word.proofs.word.Reads as word-reads
 use Rattle.tree_hold.proofs.+list_told+node_told.{statement}
@@ -77,7 +77,7 @@ list-told-padding-requires t c κs = search needs
 
 -- a child is found where the code looks for it
 child-found : (t : ℕ) (c : list-told-lts.In-loop (list-told-has t) (list-told-at t) list-told.Post list-told-Inv-loop list-told-μ-loop)
-    → Found (readTree (c .before .before .before .before .before .args .levels)) (c .before .before .before .before .before .args .tree .now) (c .before .loop .place + padding (c .before .loop .place))
+    → Found (readTree (c .before .before .before .before .before .args .levels)) (c .before .before .before .before .before .args .tree .now) (c .before .loop .place + padding 4 (c .before .loop .place))
 child-found t c = let a = c .before .before .before .before .before .args in let f = c .before .before .before .before .before .pre .1 .0 in let l = c .before .loop in
     left-child (readTree (a .levels)) (a .kind) (a .tree .now) (rowOf (a .catalogue .now) (a .row)) _ _ (l .left) (l .place) (l .holds) (l .inv .0 (f .nodes) (f .node) (f .is)) (search needs) (f .short)
 

@@ -6,7 +6,7 @@ use mathlib.Core.Path.{sym, _∙_}
 use Prim.Native.Nat.{_-_}
 use native.Mathlib.Omega.{arith}
 use Rattle.catalogue.specs.Places.{rowOf}
-use Rattle.tree.specs.TreeLimits.{levelsMost}
+use Rattle.tree.specs.Limits.{levelsMost}
 use Rattle.tree.proofs.Nodes.{node-inside, as-branch, root, root-answer}
 
 word-requires : tie.Need-word-requires

@@ -2,6 +2,7 @@
 use borrow.Author.Needs.{needs}
 use Rattle.tree_hold.proofs.relation_told.Statement.{statement}
 use Rattle.tree_hold.proofs.relation_told.Tie as tie
+use Rattle.tree.proofs.Leaves.{word-from}
 
 add-word : tie.Need-add-word
 add-word c = search needs
@@ -37,7 +38,23 @@ told-requires : tie.Need-told-requires
 told-requires c κs = search needs
 
 returns : tie.Need-returns
-returns c = rw (← c .before .before .before .before .before .word .ensures, ← c .before .before .before .before .word2 .ensures, ← c .before .before .before .word3 .ensures, ← c .before .before .number-of .ensures, ← c .before .relation-holds .ensures) (c .told .ensures)
+returns c =
+    let related = c .before in
+    let named = related .before in
+    let valued = named .before in
+    let specified = valued .before in
+    let found = specified .before in
+    let a = found .before .before .args in
+    rw (
+      word-from 4 (a .tree .now) (a .at) 8,
+      word-from 4 (a .tree .now) (a .at) 32,
+      word-from 4 (a .tree .now) (a .at) 40,
+      ← found .word .ensures,
+      ← specified .word2 .ensures,
+      ← valued .word3 .ensures,
+      ← named .number-of .ensures,
+      ← related .relation-holds .ensures,
+    ) (c .told .ensures)
 
 pub relation-told-spec : {M : Type 1} → statement M
 relation-told-spec =

@@ -21,6 +21,9 @@ property-requires c κs = search needs
 half-requires : tie.Need-half-requires
 half-requires c κs = search needs
 
+number-type-requires : tie.Need-number-type-requires
+number-type-requires c κs = search needs
+
 half-requires-2 : tie.Need-half-requires-2
 half-requires-2 c κs = search needs
 
@@ -43,20 +46,38 @@ both-requires-3 : tie.Need-both-requires-3
 both-requires-3 c κs = search needs
 
 returns-2 : tie.Need-returns-2
-returns-2 c = let a = c .before .before .before .before .before .before .before .before .before .before .before .before .args in
-    relation-by (a .unread .now) (c .before .before .before .before .before .before .before .before .before .before .if1 .left) _ _ _ true
-    (c .before .before .before .before .before .before .before .before .before .word .ensures)
-    (c .before .before .before .before .before .before .before .before .property .ensures)
-    (c .before .before .before .before .word2 .ensures)
-    (sym (c .if2 .taken) ∙ c .before .both3 .ensures ∙ ap₂ both (c .before .before .both2 .ensures ∙ ap (both (leb (c .before .before .before .before .before .before .before .before .before .word .result) 5)) (c .before .before .before .within .ensures)) (c .before .before .before .before .before .both .ensures ∙ ap₂ both (ap (λ (n : ℕ). eqb n 0x0013) (c .before .before .before .before .before .before .before .half .ensures)) (ap (λ (n : ℕ). eqb n 0) (c .before .before .before .before .before .before .half2 .ensures))))
+returns-2 c =
+    let served = c .before .before in
+    let valued = served .before .before in
+    let typed = valued .before in
+    let told = typed .before .before .before in
+    let found = told .before .before in
+    relation-by (found .before .before .before .args .unread .now) (found .before .if1 .left) _ _ _ true
+    (found .word .ensures)
+    (told .before .property .ensures)
+    (valued .word2 .ensures)
+    (sym (c .if2 .taken) ∙ c .before .both3 .ensures
+    ∙ ap₂ both
+    (served .both2 .ensures ∙ ap (both (leb (found .word .result) 5)) (served .before .within .ensures))
+    (typed .both .ensures
+    ∙ ap₂ both (ap₂ eqb (told .half .ensures) (typed .before .before .number-type .ensures)) (ap (λ (n : ℕ). eqb n 0) (typed .before .half2 .ensures))))
 
 returns-3 : tie.Need-returns-3
-returns-3 c = let a = c .before .before .before .before .before .before .before .before .before .before .before .before .args in
-    relation-by (a .unread .now) (c .before .before .before .before .before .before .before .before .before .before .if1 .left) _ _ _ false
-    (c .before .before .before .before .before .before .before .before .before .word .ensures)
-    (c .before .before .before .before .before .before .before .before .property .ensures)
-    (c .before .before .before .before .word2 .ensures)
-    (sym (c .if2 .left) ∙ c .before .both3 .ensures ∙ ap₂ both (c .before .before .both2 .ensures ∙ ap (both (leb (c .before .before .before .before .before .before .before .before .before .word .result) 5)) (c .before .before .before .within .ensures)) (c .before .before .before .before .before .both .ensures ∙ ap₂ both (ap (λ (n : ℕ). eqb n 0x0013) (c .before .before .before .before .before .before .before .half .ensures)) (ap (λ (n : ℕ). eqb n 0) (c .before .before .before .before .before .before .half2 .ensures))))
+returns-3 c =
+    let served = c .before .before in
+    let valued = served .before .before in
+    let typed = valued .before in
+    let told = typed .before .before .before in
+    let found = told .before .before in
+    relation-by (found .before .before .before .args .unread .now) (found .before .if1 .left) _ _ _ false
+    (found .word .ensures)
+    (told .before .property .ensures)
+    (valued .word2 .ensures)
+    (sym (c .if2 .left) ∙ c .before .both3 .ensures
+    ∙ ap₂ both
+    (served .both2 .ensures ∙ ap (both (leb (found .word .result) 5)) (served .before .within .ensures))
+    (typed .both .ensures
+    ∙ ap₂ both (ap₂ eqb (told .half .ensures) (typed .before .before .number-type .ensures)) (ap (λ (n : ℕ). eqb n 0) (typed .before .half2 .ensures))))
 
 pub read-relation-spec : {M : Type 1} → statement M
 read-relation-spec =
@@ -66,6 +87,7 @@ read-relation-spec =
     word-requires
     property-requires
     half-requires
+    number-type-requires
     half-requires-2
     both-requires
     word-requires-2

@@ -6,7 +6,7 @@ use native.Mathlib.Omega.{arith}
 use mathlib.Core.Path.{sym, _∙_}
 use lib.ListN.{length}
 use borrow.Author.Tests.{not-true, not-false}
-use Rattle.wire.proofs.Fields.{room-there, flag-past, flag-over, flag-there}
+use Rattle.wire.proofs.FieldLaws.{room-there, flag-past, flag-over, flag-there}
 
 room-requires : tie.Need-room-requires
 room-requires c κs = search needs

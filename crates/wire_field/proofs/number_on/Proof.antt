@@ -8,7 +8,7 @@ use mathlib.Core.Path.{_≡_, sym, ap, _∙_}
 use lib.ListN.{length}
 use borrow.Author.Tests.{not-true, not-false}
 use Rattle.wire.specs.Word.{numberAt}
-use Rattle.wire.proofs.Fields.{room-there, number-past, number-there}
+use Rattle.wire.proofs.FieldLaws.{room-there, number-past, number-there}
 use Rattle.wire.specs.declared.NumberRead.{NumberRead}
 
 room-requires : tie.Need-room-requires

@@ -5,7 +5,7 @@ use native.Mathlib.Omega.{arith}
 use Prim.Native.Nat.{_+_}
 use borrow.Author.Tests.{lt-leb}
 use mathlib.Core.Path.{sym}
-use Rattle.wire.proofs.Fields.{room-shift}
+use Rattle.wire.proofs.FieldLaws.{room-shift}
 
 returns : tie.Need-returns
 returns c = let a = c .before .args in sym (lt-leb (a .at + a .count) (a .size) (omega arith))

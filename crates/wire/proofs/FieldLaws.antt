@@ -4,13 +4,12 @@ use mathlib.Core.Bool.{Bool, true, false, not}
 use mathlib.Core.List.{List}
 use Prim.Native.Nat.{ℕ, _+_, _-_, _≤_, _<_}
 use native.Mathlib.Omega.{arith}
-use borrow.Author.Tests.{le-leb, lt-leb, leb-true, leb-false, eq-eqb, ne-eqb, not-false}
-use lib.Dec.{leb, eqb}
+use borrow.Author.Tests.{le-leb, lt-leb, leb-true, leb-false, not-false}
+use lib.Dec.{leb}
 use lib.ListN.{length, getD}
 use Rattle.wire.specs.Word.{numberAt}
-use Rattle.lists.proofs.Below.{by-test, every-shown, every-broken}
-use Rattle.wire.specs.Fields.{padCount, paddedOn, numberOn, flagOn, setOurs}
-use Rattle.wire.specs.declared.PlaceRead.{PlaceRead}
+use Rattle.lists.proofs.Below.{by-test}
+use Rattle.wire.specs.FieldPlaces.{numberOn, flagOn}
 use Rattle.wire.specs.declared.NumberRead.{NumberRead}
 
 pub room-shift : (len at n : ℕ) → n ≤ len → leb at (len - n) ≡ leb (at + n) len
@@ -22,22 +21,6 @@ room-shift len at n h =
 -- the bytes that a test found to be there
 pub room-there : (at n len : ℕ) {r : Bool} → r ≡ leb (at + n) len → not r ≡ false → at + n ≤ len
 room-there at n len {r} e f = leb-true (at + n) len (sym e ∙ not-false r f)
-
--- padding: it runs past the end, it has a byte that is not zero, it is passed
-module _ (unit : ℕ) (m : List ℕ) (at : ℕ) where
-  pub padded-past : leb (at + padCount unit at) (length m) ≡ false → paddedOn unit m at ≡ PlaceRead.Malformed
-  unfolding paddedOn
-  padded-past h = rw h
-
-  pub padded-broken : leb (at + padCount unit at) (length m) ≡ true → (i : ℕ) → i < padCount unit at → (getD m (at + i) 0 ≡ 0 → ⊥)
-      → paddedOn unit m at ≡ PlaceRead.Malformed
-  unfolding paddedOn
-  padded-broken h i b n = rw (h, every-broken (padCount unit at) (λ i. eqb (getD m (at + i) 0) 0) i b (ne-eqb (getD m (at + i) 0) 0 n))
-
-  pub padded-passed : leb (at + padCount unit at) (length m) ≡ true → ((i : ℕ) → i < padCount unit at → getD m (at + i) 0 ≡ 0)
-      → paddedOn unit m at ≡ PlaceRead.Place (at + padCount unit at)
-  unfolding paddedOn
-  padded-passed h f = rw (h, every-shown (padCount unit at) (λ i. eqb (getD m (at + i) 0) 0) (λ i b. eq-eqb (getD m (at + i) 0) 0 (f i b)))
 
 -- numbers and flags: they run past the end, they are there
 module _ (n : ℕ) (m : List ℕ) (at : ℕ) where
@@ -61,12 +44,3 @@ module _ (m : List ℕ) (at : ℕ) where
   pub flag-there : leb (at + 1) (length m) ≡ true → getD m at 0 ≤ 1 → flagOn m at ≡ NumberRead.Number (getD m at 0) (at + 1)
   unfolding flagOn
   flag-there h b = rw (h, le-leb (getD m at 0) 1 b)
-
-  -- the set identifier: a byte differs, or none does
-  pub set-other : (i : ℕ) → i < 16 → (getD m (at + i) 0 ≡ 16 + i → ⊥) → setOurs m at ≡ false
-  unfolding setOurs
-  set-other i b n = every-broken 16 (λ i. eqb (getD m (at + i) 0) (16 + i)) i b (ne-eqb (getD m (at + i) 0) (16 + i) n)
-
-  pub set-same : ((i : ℕ) → i < 16 → getD m (at + i) 0 ≡ 16 + i) → setOurs m at ≡ true
-  unfolding setOurs
-  set-same f = every-shown 16 (λ i. eqb (getD m (at + i) 0) (16 + i)) (λ i b. eq-eqb (getD m (at + i) 0) (16 + i) (f i b))

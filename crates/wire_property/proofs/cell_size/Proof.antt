@@ -1,7 +1,7 @@
 -- Each answer is the definition's at the tests that led to it. Assumes nothing.
 use borrow.Author.Needs.{needs}
-use Rattle.bindings_property.proofs.cell_size.Statement.{statement}
-use Rattle.bindings_property.proofs.cell_size.Tie as tie
+use Rattle.wire_property.proofs.cell_size.Statement.{statement}
+use Rattle.wire_property.proofs.cell_size.Tie as tie
 use borrow.Author.Tests.{eq-eqb, ne-eqb}
 use mathlib.Core.Path.{sym, _∙_}
 

@@ -10,3 +10,7 @@ nodesMost = 64
 
 abbrev pub levelsMost : ℕ
 levelsMost = 8
+
+-- "phrase of 1 to 64 units"
+abbrev pub phraseMost : ℕ
+phraseMost = 64
