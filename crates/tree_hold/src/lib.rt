@@ -40,11 +40,11 @@ fn content_told(tree: &[u8], at: usize, catalogue: &[u8], row: Fields) -> usize
     ensures { λ r. ⌜ r ≡ contentTold (now (tree .entry)) at (now (catalogue .entry)) row ⌝ }
 {
     let property = wire_word::word(tree, at + CONTENT_PROPERTY_AT);
-    let size = at + tree::PHRASE_FROM + wire_field::padding(4, at + tree::PHRASE_FROM);
+    let size = at + tree::PHRASE_FROM + wire_field::padding(at + tree::PHRASE_FROM);
     let count = wire_word::word(tree, size) as usize;
     let start = size + 4;
     let end = start + 2 * count;
-    let locale = end + wire_field::padding(4, end);
+    let locale = end + wire_field::padding(end);
     let method = wire_word::word(tree, locale + 4);
     let text = tree_match::text_of(property, row);
     let holds = tree_match::phrase_holds(&tree[start..end], method, catalogue, text);
@@ -88,7 +88,7 @@ fn list_told(kind: u32, tree: &[u8], at: usize, levels: u32, catalogue: &[u8], r
     let mut place = at + tree::LIST_HEAD;
     let mut holds = kind == tree::AND;
     while 0 < left {
-        let child = place + wire_field::padding(4, place);
+        let child = place + wire_field::padding(place);
         let answer = node_told(tree, child, levels, catalogue, row);
         holds = tree_verdict::with_child(kind, holds, answer % 2 == 1);
         place = answer / 2;

@@ -15,7 +15,7 @@ fn read_phrase(unread: &[u8], place: usize, at: usize) -> PhraseAt
     requires { ⌜ (place < 2 ^ 62) × (at ≤ 2 ^ 61) ⌝ }
     ensures { λ r. ⌜ r ≡ phraseAt (now (unread .entry)) place at ⌝ }
 {
-    let before = wire_field::padding(4, place + at);
+    let before = wire_field::padding(place + at);
     let size = at + before;
     let start = size + 4;
     if unread.len() < start {
@@ -24,7 +24,7 @@ fn read_phrase(unread: &[u8], place: usize, at: usize) -> PhraseAt
     let units = wire_word::word(unread, size);
     let count = units as usize;
     let end = start + 2 * count;
-    let after = wire_field::padding(4, place + end);
+    let after = wire_field::padding(place + end);
     let next = end + after;
     if unread.len() < next {
         return PhraseAt::NoPhrase;

@@ -124,7 +124,7 @@ fn children(unread: &[u8], place: usize, count: u32, levels: u32, nodes: u32) ->
     if count == 0 {
         return ListRead::Children(0, nodes);
     }
-    let start = wire_field::padding(4, place);
+    let start = wire_field::padding(place);
     if unread.len() < start {
         return ListRead::NoChildren;
     }

@@ -20,11 +20,18 @@ fn room(size: usize, at: usize, count: usize) -> bool
 }
 
 // How many bytes stand between a place and the next multiple of a unit.
-pub fn padding(unit: usize, place: usize) -> usize
+fn padding_to(unit: usize, place: usize) -> usize
     requires { ⌜ 0 < unit ⌝ }
     ensures { λ r. ⌜ r ≡ padding unit place ⌝ }
 {
     (unit - place % unit) % unit
+}
+
+// The same for a unit of four, which is all that a tree has: a unit that is known takes no division.
+pub fn padding(place: usize) -> usize
+    ensures { λ r. ⌜ r ≡ padding 4 place ⌝ }
+{
+    (4 - place % 4) % 4
 }
 
 // Whether so many bytes from a place on are zero.
@@ -47,7 +54,7 @@ pub fn padded_on(message: &[u8], at: usize, unit: usize) -> PlaceRead
     requires { ⌜ 0 < unit ⌝ }
     ensures { λ r. ⌜ r ≡ paddedOn unit (now (message .entry)) at ⌝ }
 {
-    let pad = padding(unit, at);
+    let pad = padding_to(unit, at);
     if !room(message.len(), at, pad) {
         return PlaceRead::Malformed;
     }
