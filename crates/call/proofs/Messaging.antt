@@ -46,11 +46,11 @@ module _ (src : Sources) (t : List ℕ) (seat : ℕ) (m : List ℕ) (entry : Lis
     pub long-refused : 16384 ≤ length entry → 16 ≤ length m → 16384 < length m → Keeps (messageStep src t seat m (length entry)) 5 0 0 t entry entry
     long-refused r l h = size-refused r (rw (le-leb 16 (length m) l, lt-leb (length m) 16384 h))
 
-    pub message-answered : 16384 ≤ length entry → 16 ≤ length m → length m ≤ 16384 → (r : Answered) (block exit : List ℕ)
-        → Answers (seatMessage (rowsOf (src .rows)) (seatHeld t seat) m) r block entry exit
-        → Keeps (messageStep src t seat m (length entry)) (r .refusal) 0 (r .count) (put t (seatAt seat) (seatAt seat + seatSize - seatAt seat) block) entry exit
+    pub message-answered : 16384 ≤ length entry → 16 ≤ length m → length m ≤ 16384 → (r : Answered) (words exit : List ℕ)
+        → Answers (seatMessage (rowsOf (src .rows)) (seatHeld t seat) m) r words entry exit
+        → Keeps (messageStep src t seat m (length entry)) (r .refusal) 0 (r .count) (put t (seatAt seat) (seatAt seat + seatSize - seatAt seat) words) entry exit
     unfolding firstCause messageStep
-    message-answered h l k r block exit a =
+    message-answered h l k r words exit a =
         let f : firstCause (judging src t seat ++ sizing m (length entry)) ≡ 0
         = sizes ∙ rw (le-ltb (length entry) 16384 h, le-leb 16 (length m) l, le-leb (length m) 16384 k) in
         rw f
@@ -58,6 +58,6 @@ module _ (src : Sources) (t : List ℕ) (seat : ℕ) (m : List ℕ) (entry : Lis
           refused = a .refused;
           given = refl;
           counted = a .counted;
-          kept = seated-is t seat block (seatMessage (rowsOf (src .rows)) (seatHeld t seat) m .after) (a .kept);
+          kept = seated-is t seat words (seatMessage (rowsOf (src .rows)) (seatHeld t seat) m .after) (a .kept);
           written = a .written;
         }

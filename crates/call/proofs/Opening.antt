@@ -15,12 +15,12 @@ use Rattle.catalogue.specs.Plain.{catalogue}
 use Rattle.catalogue.specs.Places.{checked}
 use Rattle.tree.specs.Noted.{Noted}
 use Rattle.tree.proofs.SelectLaws.{noted-by-check}
-use Rattle.table.specs.Layout.{seats, cursorSize, cursorPlace, blockOf}
+use Rattle.table.specs.Layout.{seats, cursorSize, cursorPlace, seatPart}
 use Rattle.lists.specs.Parts.{part, put}
-use Rattle.table.specs.Seat.{Cursor, Seat, cursorBlock, seatBlock, withCursor}
+use Rattle.table.specs.Seat.{Cursor, Seat, cursorWords, seatWords, withCursor}
 use Rattle.table.specs.Well.{tableWell}
 use Rattle.table.specs.Fits.{CursorOk, SeatOk}
-use Rattle.table.proofs.Seats.{cursor-block}
+use Rattle.table.proofs.Seats.{cursor-words}
 use Rattle.table.specs.Open.{isOpen}
 use Rattle.refusal.specs.Refusal.{firstCause}
 use Rattle.message.proofs.Bodies.{put-handle}
@@ -30,7 +30,7 @@ use Rattle.call.specs.Step.{Sources, Keeps, rowsHold, judging, seatHeld,
 use Rattle.call.specs.Judgement.{Judgement}
 use Rattle.call.specs.declared.Judged.{Judged}
 use Rattle.call.proofs.Causes.{judging-numbered, no-rows}
-use Rattle.call.proofs.Seating.{block-is, seat-ok}
+use Rattle.call.proofs.Seating.{words-is, seat-ok}
 
 module _ (src : Sources) (t : List ℕ) (seat : ℕ) (tree : List ℕ) where
   by-cause : (n : ℕ) → firstCause (judging src t seat ++ openCauses (seatHeld t seat) tree) ≡ n → (n ≡ 0 → ⊥)
@@ -75,7 +75,7 @@ closed (some c) e = absurd (true≢false e)
 
 -- the lowest free handle's cursor is closed
 pub free-closed : (s : Seat) (handle : ℕ) → CursorOk (s .first) → CursorOk (s .second) → handle ≡ freeHandle s → (handle ≡ 0 → ⊥)
-    → part (seatBlock (some s)) (cursorPlace handle) cursorSize ≡ cursorBlock none
+    → part (seatWords (some s)) (cursorPlace handle) cursorSize ≡ cursorWords none
 free-closed s handle f g e z =
     by-test (isOpen (s .first))
     (λ q.
@@ -83,15 +83,15 @@ free-closed s handle f g e z =
     (λ k. absurd (z (e ∙ rw (q, k))))
     (λ k.
     let two : handle ≡ 2 = e ∙ rw (q, k) in
-    ap (λ (h : ℕ). part (seatBlock (some s)) (cursorPlace h) cursorSize) two
-    ∙ ap (take cursorSize) (drop-at (cursorBlock (s .first)) (cursorBlock (s .second)) cursorSize (cursor-block (s .first) f .size))
-    ∙ take-all cursorSize (cursorBlock (s .second)) (omega (arith, cursor-block (s .second) g .size))
-    ∙ ap cursorBlock (closed (s .second) k)))
+    ap (λ (h : ℕ). part (seatWords (some s)) (cursorPlace h) cursorSize) two
+    ∙ ap (take cursorSize) (drop-at (cursorWords (s .first)) (cursorWords (s .second)) cursorSize (cursor-words (s .first) f .size))
+    ∙ take-all cursorSize (cursorWords (s .second)) (omega (arith, cursor-words (s .second) g .size))
+    ∙ ap cursorWords (closed (s .second) k)))
     (λ q.
     let one : handle ≡ 1 = e ∙ rw q in
-    ap (λ (h : ℕ). part (seatBlock (some s)) (cursorPlace h) cursorSize) one
-    ∙ take-at (cursorBlock (s .first)) (cursorBlock (s .second)) cursorSize (cursor-block (s .first) f .size)
-    ∙ ap cursorBlock (closed (s .first) q))
+    ap (λ (h : ℕ). part (seatWords (some s)) (cursorPlace h) cursorSize) one
+    ∙ take-at (cursorWords (s .first)) (cursorWords (s .second)) cursorSize (cursor-words (s .first) f .size)
+    ∙ ap cursorWords (closed (s .first) q))
 
 -- a seat on which opening is not refused is connected, and its lowest free handle is 1 or 2
 pub open-seat : (held : Option Seat) (tree : List ℕ) → firstCause (openCauses held tree) ≡ 0 → (s : Seat) × (held ≡ some s) × (freeHandle s ≡ 0 → ⊥)
@@ -102,17 +102,17 @@ open-seat (some s) tree e =
 
 -- a seat of the table, by the seat that it holds
 module _ (t : List ℕ) (w : tableWell t ≡ true) (seat : ℕ) (l : seat < seats) (s : Seat) (h : seatHeld t seat ≡ some s) (handle : ℕ) (e : handle ≡ freeHandle s) where
-  block-held : blockOf t seat ≡ seatBlock (some s)
-  block-held = block-is t w seat l ∙ ap seatBlock h
+  part-held : seatPart t seat ≡ seatWords (some s)
+  part-held = words-is t w seat l ∙ ap seatWords h
 
   fits : CursorOk (s .first) × CursorOk (s .second)
   fits = subst SeatOk h (seat-ok t w seat l)
 
-  pub part-closed : (handle ≡ 0 → ⊥) → part (blockOf t seat) (cursorPlace handle) cursorSize ≡ cursorBlock none
-  part-closed z = ap (λ (b : List ℕ). part b (cursorPlace handle) cursorSize) block-held ∙ free-closed s handle (fits .0) (fits .1) e z
+  pub part-closed : (handle ≡ 0 → ⊥) → part (seatPart t seat) (cursorPlace handle) cursorSize ≡ cursorWords none
+  part-closed z = ap (λ (b : List ℕ). part b (cursorPlace handle) cursorSize) part-held ∙ free-closed s handle (fits .0) (fits .1) e z
 
-  pub part-opened : (o : Option Cursor) → put (blockOf t seat) (cursorPlace handle) cursorSize (cursorBlock o) ≡ seatBlock (some (withCursor s (freeHandle s) o))
+  pub part-opened : (o : Option Cursor) → put (seatPart t seat) (cursorPlace handle) cursorSize (cursorWords o) ≡ seatWords (some (withCursor s (freeHandle s) o))
   part-opened o =
-      ap (λ (b : List ℕ). put b (cursorPlace handle) cursorSize (cursorBlock o)) block-held
+      ap (λ (b : List ℕ). put b (cursorPlace handle) cursorSize (cursorWords o)) part-held
       ∙ put-handle s handle o (fits .0) (fits .1)
-      ∙ ap (λ (k : ℕ). seatBlock (some (withCursor s k o))) e
+      ∙ ap (λ (k : ℕ). seatWords (some (withCursor s k o))) e

@@ -22,12 +22,12 @@ use Rattle.lists.proofs.Rising.{rises, rises-between}
 use Rattle.tree.specs.Select.{selection, selectedBy}
 use Rattle.tree.proofs.Selection.{numbers-few, numbers-rise}
 use Rattle.tree.proofs.SelectLaws.{rows-few}
-use Rattle.table.specs.Layout.{seats, blockOf}
-use Rattle.table.specs.Seat.{Cursor, Seat, seatBlock, seatOf, fresh, opened, withCursor}
+use Rattle.table.specs.Layout.{seats, seatPart}
+use Rattle.table.specs.Seat.{Cursor, Seat, seatWords, seatOf, fresh, opened, withCursor}
 use Rattle.table.specs.Well.{tableWell, cursorBelow, seatBelow, tableBelow}
 use Rattle.table.specs.Fits.{CursorFits, SeatOk}
 use Rattle.table.proofs.Bounds.{every-shown as each-shown}
-use Rattle.table.proofs.Seats.{seat-block}
+use Rattle.table.proofs.Seats.{seat-words}
 use Rattle.table.proofs.Tables.{same-or-not, seat-same, seat-other, still-well}
 use Rattle.refusal.specs.Refusal.{firstCause}
 use Rattle.message.specs.Message.{seatMessage}
@@ -47,27 +47,27 @@ pub record Passing (src : Sources) (t : List ℕ) : Type 0 where
 -- a seat of the table, below a bound
 pub seat-below : (bound : ℕ) (t : List ℕ) → tableBelow bound t ≡ true → (seat : ℕ) → seat < seats → seatBelow bound (seatHeld t seat) ≡ true
 unfolding tableBelow
-seat-below bound t e seat h = every-at seats (λ k. seatBelow bound (seatOf (blockOf t k))) e seat h
+seat-below bound t e seat h = every-at seats (λ k. seatBelow bound (seatOf (seatPart t k))) e seat h
 
 module _ (t : List ℕ) (w : tableWell t ≡ true) (seat : ℕ) (h : seat < seats) (s : Option Seat) (f : SeatOk s) where
   seated-well : tableWell (seated t seat s) ≡ true
-  seated-well = still-well t w seat h (seatBlock s) (seat-block s f .size) (seat-block s f .well)
+  seated-well = still-well t w seat h (seatWords s) (seat-words s f .size) (seat-words s f .well)
 
   seated-below : (bound : ℕ) → tableBelow bound t ≡ true → seatBelow bound s ≡ true → tableBelow bound (seated t seat s) ≡ true
   unfolding tableBelow
-  seated-below bound e b = every-shown seats (λ k. seatBelow bound (seatOf (blockOf (seated t seat s) k))) (λ k m. each k m (same-or-not k seat))
+  seated-below bound e b = every-shown seats (λ k. seatBelow bound (seatOf (seatPart (seated t seat s) k))) (λ k m. each k m (same-or-not k seat))
     where
-      each : (k : ℕ) → k < seats → (k ≡ seat) ⊎ (k ≡ seat → ⊥) → seatBelow bound (seatOf (blockOf (seated t seat s) k)) ≡ true
+      each : (k : ℕ) → k < seats → (k ≡ seat) ⊎ (k ≡ seat → ⊥) → seatBelow bound (seatOf (seatPart (seated t seat s) k)) ≡ true
       each k m c =
           ⊎-elim
           (λ (p : k ≡ seat).
-          ap (λ (j : ℕ). seatBelow bound (seatOf (blockOf (seated t seat s) j))) p
-          ∙ ap (λ (x : List ℕ). seatBelow bound (seatOf x)) (seat-same t w seat h (seatBlock s) (seat-block s f .size))
-          ∙ ap (seatBelow bound) (seat-block s f .held)
+          ap (λ (j : ℕ). seatBelow bound (seatOf (seatPart (seated t seat s) j))) p
+          ∙ ap (λ (x : List ℕ). seatBelow bound (seatOf x)) (seat-same t w seat h (seatWords s) (seat-words s f .size))
+          ∙ ap (seatBelow bound) (seat-words s f .held)
           ∙ b)
           (λ (p : k ≡ seat → ⊥).
-          ap (λ (x : List ℕ). seatBelow bound (seatOf x)) (seat-other t w seat h (seatBlock s) (seat-block s f .size) k m p)
-          ∙ every-at seats (λ j. seatBelow bound (seatOf (blockOf t j))) e k m)
+          ap (λ (x : List ℕ). seatBelow bound (seatOf x)) (seat-other t w seat h (seatWords s) (seat-words s f .size) k m p)
+          ∙ every-at seats (λ j. seatBelow bound (seatOf (seatPart t j))) e k m)
           c
 
 -- a seat that is fit, with rows below the catalogue's count, keeps the table passing

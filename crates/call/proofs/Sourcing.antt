@@ -47,7 +47,7 @@ noted-placed s rows held n =
     inside : (k : ℕ) → k < length (map (rowSeen s) (places s)) → k < rows
     inside k h = omega (arith, before k h, Laws.counted s rows held n)
 
--- so a seat's block and the places may be handed on
+-- so a seat's words and the places may be handed on
 pub sourced : (s t : List ℕ) (seat rows : ℕ) (held : List ℕ) → seat < seats → rowsHold (catalogue s) t ≡ true → Noted s rows held
     → Sourced (take (seatSize * seat + seatSize - seatSize * seat) (drop (seatSize * seat) t)) s held
 sourced s t seat rows held l h n =

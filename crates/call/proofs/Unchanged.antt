@@ -22,7 +22,7 @@ use Rattle.refusal.proofs.First.{first-both}
 use Rattle.query.specs.Open.{openCauses}
 use Rattle.call.specs.Step.{Sources, Outcome, judging, seatHeld, seated, sizing, connectCauses, connectStep, messageStep, openDone, openStep}
 use Rattle.call.proofs.Causes.{judging-numbered, passes}
-use Rattle.call.proofs.Seating.{block-is}
+use Rattle.call.proofs.Seating.{words-is}
 
 -- what a refused call leaves: no handle, the words as they were, and nothing or the sixteen bytes of a header in the buffer
 pub record Unchanged (o : Outcome) (t : List ℕ) : Type 0 where
@@ -83,7 +83,7 @@ on-seat rows held m =
 -- a seat put back in its place
 seated-back : (t : List ℕ) → tableWell t ≡ true → (seat : ℕ) → seat < seats → seated t seat (seatHeld t seat) ≡ t
 seated-back t w seat h =
-    ap (λ (block : List ℕ). take (seatAt seat) t ++ (block ++ drop seatSize (drop (seatAt seat) t))) (sym (block-is t w seat h))
+    ap (λ (words : List ℕ). take (seatAt seat) t ++ (words ++ drop seatSize (drop (seatAt seat) t))) (sym (words-is t w seat h))
     ∙ ap (λ (rest : List ℕ). take (seatAt seat) t ++ rest) (take-append-drop seatSize (drop (seatAt seat) t))
     ∙ take-append-drop (seatAt seat) t
 

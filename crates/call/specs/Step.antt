@@ -9,9 +9,9 @@ use lib.ListN.{length, drop}
 use Rattle.lists.specs.Below.{pick}
 use Rattle.wire.specs.Checksum.{messageSized}
 use Rattle.catalogue.specs.Plain.{Row, catalogue, rowsOf}
-use Rattle.table.specs.Layout.{seatSize, seatAt, blockOf}
+use Rattle.table.specs.Layout.{seatSize, seatAt, seatPart}
 use Rattle.lists.specs.Parts.{put}
-use Rattle.table.specs.Seat.{Seat, seatBlock, seatOf, fresh}
+use Rattle.table.specs.Seat.{Seat, seatWords, seatOf, fresh}
 use Rattle.table.specs.Well.{tableWell, tableBelow}
 use Rattle.refusal.specs.Refusal.{firstCause}
 use Rattle.message.specs.Message.{SeatOutcome, seatMessage}
@@ -56,7 +56,7 @@ judging src t seat = (1, ltb 7 seat) ∷ (2, not (tableWell t)) ∷ (3, not (row
 
 -- the seat that a table holds, none where it is not connected
 abbrev pub seatHeld : List ℕ → ℕ → Option Seat
-seatHeld t seat = seatOf (blockOf t seat)
+seatHeld t seat = seatOf (seatPart t seat)
 
 -- whether it is connected
 abbrev pub isConnected : Option Seat → Bool
@@ -65,7 +65,7 @@ isConnected (some s) = true
 
 -- the table with another seat in a seat's place; "No refusal changes the table"
 abbrev pub seated : List ℕ → ℕ → Option Seat → List ℕ
-seated t seat s = put t (seatAt seat) seatSize (seatBlock s)
+seated t seat s = put t (seatAt seat) seatSize (seatWords s)
 
 -- connecting: 7 is "connecting a connected seat"
 abbrev pub connectCauses : Sources → List ℕ → ℕ → List (ℕ × Bool)

@@ -19,7 +19,7 @@ use Rattle.bindings.specs.Fit.{rowMost, fit}
 use Rattle.table.specs.Layout.{cursorSize, rowsSize, recordsAt, recordsSize}
 use Rattle.lists.specs.Parts.{part}
 use Rattle.table.specs.Seat.{cursorHeld}
-use Rattle.table.proofs.Seats.{cursor-block}
+use Rattle.table.proofs.Seats.{cursor-words}
 use Rattle.lists.proofs.Parts.{part-length}
 use Rattle.bindings.proofs.Sound.{fit-sound}
 use Rattle.refusal.specs.Refusal.{firstCause}
@@ -71,7 +71,7 @@ every-take test (suc n) (a ∷ t) e = both-true (test a) _ (both-left (test a) _
 
 module _ (b s places : List ℕ) (q : Request) (buffer : ℕ) (r : FetchReady b s places q buffer) where
   pub size-is : length b ≡ cursorSize
-  size-is = ap length (r .held) ∙ cursor-block (some (cursorHeld b)) (r .fits) .size
+  size-is = ap length (r .held) ∙ cursor-words (some (cursorHeld b)) (r .fits) .size
 
   pub count-is : getD b 2 0 ≡ length (cursorHeld b .selection)
   count-is = ap (λ (x : List ℕ). getD x 2 0) (r .held)

@@ -10,8 +10,8 @@ use lib.Dec.{eqb}
 use lib.ListN.{length, getD, set, drop}
 use Rattle.lists.proofs.Below.{by-test}
 use Rattle.catalogue.specs.Plain.{Row, catalogue, rowsOf}
-use Rattle.table.specs.Seat.{Cursor, cursorBlock, cursorHeld}
-use Rattle.table.proofs.Writes.{moved-block}
+use Rattle.table.specs.Seat.{Cursor, cursorWords, cursorHeld}
+use Rattle.table.proofs.Writes.{moved-words}
 use Rattle.refusal.specs.Refusal.{firstCause}
 use Rattle.refusal.proofs.First.{first-stop, first-go, first-both, first-under}
 use Rattle.fetch.specs.declared.Request.{Request}
@@ -47,12 +47,12 @@ module _ (b s : List ℕ) (q : Request) (early : firstCause (earlyCauses (cursor
   unfolding firstCause
   late-refused entry e = refused-by b s q 15 entry (causes ∙ rw e) (λ z. omega arith)
 
-  pub fetch-done : (k : ℕ) (block entry exit : List ℕ) → b ≡ cursorBlock (some (cursorHeld b))
+  pub fetch-done : (k : ℕ) (words entry exit : List ℕ) → b ≡ cursorWords (some (cursorHeld b))
       → firstUnfit (cursorHeld b) q (remaining (rowsOf (catalogue s)) (cursorHeld b)) ≡ false → k ≡ sent (rowsOf (catalogue s)) (cursorHeld b) q
-      → block ≡ set b 1 (getD b 1 0 + k) → exit ≡ fetchReply (rowsOf (catalogue s)) (cursorHeld b) q ++ drop (q .size) entry
-      → Fetched b s q 0 block entry exit
+      → words ≡ set b 1 (getD b 1 0 + k) → exit ≡ fetchReply (rowsOf (catalogue s)) (cursorHeld b) q ++ drop (q .size) entry
+      → Fetched b s q 0 words entry exit
   unfolding firstCause
-  fetch-done k block entry exit held e counted m w =
+  fetch-done k words entry exit held e counted m w =
       record {
         refused = sym (causes ∙ rw e);
         unmoved = λ z. absurd (z refl);
@@ -61,7 +61,7 @@ module _ (b s : List ℕ) (q : Request) (early : firstCause (earlyCauses (cursor
             m
             ∙ ap (λ (n : ℕ). set b 1 (getD b 1 0 + n)) counted
             ∙ ap (λ (x : List ℕ). set x 1 (getD b 1 0 + sent (rowsOf (catalogue s)) (cursorHeld b) q)) held
-            ∙ moved-block (cursorHeld b) (getD b 1 0 + sent (rowsOf (catalogue s)) (cursorHeld b) q);
+            ∙ moved-words (cursorHeld b) (getD b 1 0 + sent (rowsOf (catalogue s)) (cursorHeld b) q);
         written = λ z. w;
       }
 

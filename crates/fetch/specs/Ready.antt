@@ -7,7 +7,7 @@ use Prim.Native.Nat.{ℕ, _≤_, _<_}
 use lib.ListN.{length, getD, drop}
 use Rattle.catalogue.specs.Plain.{catalogue, rowsOf}
 use Rattle.catalogue.specs.Places.{RowThere, rowSeen}
-use Rattle.table.specs.Seat.{cursorBlock, cursorHeld}
+use Rattle.table.specs.Seat.{cursorWords, cursorHeld}
 use Rattle.table.specs.Well.{cursorBelow}
 use Rattle.table.specs.Fits.{CursorFits}
 use Rattle.fetch.specs.declared.Request.{Request}
@@ -25,7 +25,7 @@ Placed s places =
 -- the words of an open cursor that passes, whose row numbers the catalogue has, its rows at their places, a sound request, and
 -- a buffer with room for the reply
 pub record FetchReady (b s places : List ℕ) (q : Request) (buffer : ℕ) : Type 0 where
-  pub held : b ≡ cursorBlock (some (cursorHeld b))
+  pub held : b ≡ cursorWords (some (cursorHeld b))
   pub fits : CursorFits (cursorHeld b)
   pub below : cursorBelow (length (rowsOf (catalogue s))) (some (cursorHeld b)) ≡ true
   pub placed : Placed s places
@@ -34,9 +34,9 @@ pub record FetchReady (b s places : List ℕ) (q : Request) (buffer : ℕ) : Typ
 
 -- the first of refusals 11, 12, 13 and 15, which leaves all as it was; where none applies, the cursor is moved and the reply is
 -- written
-pub record Fetched (b s : List ℕ) (q : Request) (refusal : ℕ) (block entry exit : List ℕ) : Type 0 where
+pub record Fetched (b s : List ℕ) (q : Request) (refusal : ℕ) (words entry exit : List ℕ) : Type 0 where
   pub refused : refusal ≡ firstCause (fetchCauses (rowsOf (catalogue s)) (cursorHeld b) q)
-  pub unmoved : (refusal ≡ 0 → ⊥) → block ≡ b
+  pub unmoved : (refusal ≡ 0 → ⊥) → words ≡ b
   pub unwritten : (refusal ≡ 0 → ⊥) → exit ≡ entry
-  pub moved : refusal ≡ 0 → block ≡ cursorBlock (some (fetched (rowsOf (catalogue s)) (cursorHeld b) q))
+  pub moved : refusal ≡ 0 → words ≡ cursorWords (some (fetched (rowsOf (catalogue s)) (cursorHeld b) q))
   pub written : refusal ≡ 0 → exit ≡ fetchReply (rowsOf (catalogue s)) (cursorHeld b) q ++ drop (q .size) entry

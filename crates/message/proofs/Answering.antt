@@ -11,7 +11,7 @@ use Rattle.wire.specs.Word.{le}
 use Rattle.catalogue.specs.Plain.{Row}
 use Rattle.wire.specs.Laid.{lay, fourWords}
 use Rattle.table.specs.Layout.{connectedAt}
-use Rattle.table.specs.Seat.{Seat, seatBlock, seatIn, seatOf}
+use Rattle.table.specs.Seat.{Seat, seatWords, seatIn, seatOf}
 use Rattle.table.specs.Fits.{CursorOk, SeatOk}
 use Rattle.table.proofs.Seats.{seat-back}
 use Rattle.refusal.specs.Refusal.{firstCause, statusOf}
@@ -29,12 +29,12 @@ pub gate-numbered : (held : Option Seat) (m : List ℕ) → Numbered (gateCauses
 gate-numbered none m = ((λ e. omega arith), ((λ e. omega arith), tt))
 gate-numbered (some s) m = ((λ e. omega arith), ((λ e. omega arith), ((λ e. omega arith), tt)))
 
--- a block that passes is that of the seat that it holds
-pub block-is : (b m reply : List ℕ) → Given b m reply → b ≡ seatBlock (seatOf b)
-block-is b m reply g = seat-back b (g .size) (g .well) .0
+-- words that pass are those of the seat that they hold
+pub words-is : (b m reply : List ℕ) → Given b m reply → b ≡ seatWords (seatOf b)
+words-is b m reply g = seat-back b (g .size) (g .well) .0
 
 -- a refusal: the header, and nothing else
-pub refused-answers : (rows : List Row) (b m entry exit : List ℕ) (msg n : ℕ) (r : Answered) → b ≡ seatBlock (seatOf b) → msg ≡ msgOf m
+pub refused-answers : (rows : List Row) (b m entry exit : List ℕ) (msg n : ℕ) (r : Answered) → b ≡ seatWords (seatOf b) → msg ≡ msgOf m
     → seatMessage rows (seatOf b) m ≡ refusedOn n (seatOf b) m → r ≡ record { refusal = n; count = 16 } → exit ≡ lay entry 0 (fourWords msg (statusOf n) 0 0)
     → Answers (seatMessage rows (seatOf b) m) r b entry exit
 unfolding le
@@ -59,8 +59,8 @@ module _ (b m reply : List ℕ) (msg kind : ℕ) (a : Admitted b m reply msg kin
   pub held : seatOf b ≡ some (seatIn b)
   held = rw (ne-eqb (getD b connectedAt 0) 0 (a .connected))
 
-  pub seat-is : b ≡ seatBlock (some (seatIn b))
-  seat-is = block-is b m reply (a .given) ∙ ap seatBlock held
+  pub seat-is : b ≡ seatWords (some (seatIn b))
+  seat-is = words-is b m reply (a .given) ∙ ap seatWords held
 
   pub seat-fits : CursorOk (seatIn b .first) × CursorOk (seatIn b .second)
   seat-fits = subst SeatOk held (seat-back b (a .given .size) (a .given .well) .1)

@@ -26,10 +26,10 @@ use Rattle.bindings.proofs.Agree.{bindings-agree}
 use Rattle.wire.specs.Laid.{lay, fourWords}
 use Rattle.table.specs.Layout.{cursorSize, cursorPlace}
 use Rattle.lists.specs.Parts.{part, put}
-use Rattle.table.specs.Seat.{Cursor, Seat, cursorBlock, seatBlock, seatIn, seatOf, cursorIn, rebound}
+use Rattle.table.specs.Seat.{Cursor, Seat, cursorWords, seatWords, seatIn, seatOf, cursorIn, rebound}
 use Rattle.table.specs.Fits.{CursorOk}
-use Rattle.table.proofs.Seats.{cursor-block}
-use Rattle.table.proofs.Writes.{rebound-block}
+use Rattle.table.proofs.Seats.{cursor-words}
+use Rattle.table.proofs.Writes.{rebound-words}
 use Rattle.refusal.specs.Refusal.{firstCause}
 use Rattle.message.specs.Message.{handleOf, bodyCauses, boundTo, reboundAt, doneOn, seatMessage}
 use Rattle.table.specs.Open.{isOpen}
@@ -61,22 +61,22 @@ pub open-some : (o : Option Cursor) → isOpen o ≡ true → (c : Cursor) × (o
 open-some none e = absurd (true≢false (sym e))
 open-some (some c) e = (c, refl)
 
--- the part of a handle's cursor is that cursor's block
+-- the part of a handle's cursor is that cursor's words
 pub part-handle : (s : Seat) (handle : ℕ) (c : Cursor) → CursorOk (s .first) → CursorOk (s .second) → cursorIn s handle ≡ some c
-    → part (seatBlock (some s)) (cursorPlace handle) cursorSize ≡ cursorBlock (some c)
+    → part (seatWords (some s)) (cursorPlace handle) cursorSize ≡ cursorWords (some c)
 part-handle s handle c f g e =
     by-test (eqb handle 1)
-    (λ q. rw q (take-at (cursorBlock (s .first)) (cursorBlock (s .second)) cursorSize (cursor-block (s .first) f .size) ∙ ap cursorBlock (rw q at e)))
+    (λ q. rw q (take-at (cursorWords (s .first)) (cursorWords (s .second)) cursorSize (cursor-words (s .first) f .size) ∙ ap cursorWords (rw q at e)))
     (λ q. rw q (second (rw q at e)))
   where
     second : pick (eqb handle 2) (s .second) none ≡ some c
-        → take cursorSize (drop cursorSize (cursorBlock (s .first) ++ cursorBlock (s .second))) ≡ cursorBlock (some c)
+        → take cursorSize (drop cursorSize (cursorWords (s .first) ++ cursorWords (s .second))) ≡ cursorWords (some c)
     second w =
         by-test (eqb handle 2)
         (λ k.
-        ap (take cursorSize) (drop-at (cursorBlock (s .first)) (cursorBlock (s .second)) cursorSize (cursor-block (s .first) f .size))
-        ∙ take-all cursorSize (cursorBlock (s .second)) (omega (arith, cursor-block (s .second) g .size))
-        ∙ ap cursorBlock (rw k at w))
+        ap (take cursorSize) (drop-at (cursorWords (s .first)) (cursorWords (s .second)) cursorSize (cursor-words (s .first) f .size))
+        ∙ take-all cursorSize (cursorWords (s .second)) (omega (arith, cursor-words (s .second) g .size))
+        ∙ ap cursorWords (rw k at w))
         (λ k. absurd (none≢some (rw k at w)))
 
 module _ (b m reply : List ℕ) (msg : ℕ) (a : Admitted b m reply msg 3) (rows : List Row) where
@@ -93,35 +93,35 @@ module _ (b m reply : List ℕ) (msg : ℕ) (a : Admitted b m reply msg 3) (rows
   unfolding firstCause
   not-fit x e o f = rw (e, o, f)
 
-  bound-block : (x : Bindings) → bindings m ≡ some x → (c : Cursor) × (cursorIn (seatIn b) (handleOf m) ≡ some c)
+  bound-words : (x : Bindings) → bindings m ≡ some x → (c : Cursor) × (cursorIn (seatIn b) (handleOf m) ≡ some c)
       → reboundAt b (handleOf m) (wordsOf (x .columns)) (length (x .columns)) (x .width)
-      ≡ seatBlock (some (boundTo (seatIn b) (handleOf m) (cursorIn (seatIn b) (handleOf m)) (bindings m)))
-  bound-block x e k =
+      ≡ seatWords (some (boundTo (seatIn b) (handleOf m) (cursorIn (seatIn b) (handleOf m)) (bindings m)))
+  bound-words x e k =
       ap (λ (y : List ℕ). reboundAt y (handleOf m) (wordsOf (x .columns)) (length (x .columns)) (x .width)) (seat-is b m reply msg 3 a)
       ∙ ap
       (λ (y : List ℕ).
-      put (seatBlock (some (seatIn b))) (cursorPlace (handleOf m)) cursorSize
+      put (seatWords (some (seatIn b))) (cursorPlace (handleOf m)) cursorSize
       (put (set (set y 3 (length (x .columns))) 4 (x .width)) 5 45 (wordsOf (x .columns))))
       (part-handle (seatIn b) (handleOf m) (k .0) (fits .0) (fits .1) (k .1))
-      ∙ ap (put (seatBlock (some (seatIn b))) (cursorPlace (handleOf m)) cursorSize) (rebound-block (k .0) (x .width) (x .columns))
+      ∙ ap (put (seatWords (some (seatIn b))) (cursorPlace (handleOf m)) cursorSize) (rebound-words (k .0) (x .width) (x .columns))
       ∙ put-handle (seatIn b) (handleOf m) (some (rebound (k .0) (x .width) (x .columns))) (fits .0) (fits .1)
-      ∙ ap₂ (λ (o : Option Cursor) (y : Option Bindings). seatBlock (some (boundTo (seatIn b) (handleOf m) o y))) (sym (k .1)) (sym e)
+      ∙ ap₂ (λ (o : Option Cursor) (y : Option Bindings). seatWords (some (boundTo (seatIn b) (handleOf m) o y))) (sym (k .1)) (sym e)
     where
       fits : CursorOk (seatIn b .first) × CursorOk (seatIn b .second)
       fits = seat-fits b m reply msg 3 a
 
   pub bound-answers : (x : Bindings) → bindings m ≡ some x → isOpen (cursorIn (seatIn b) (handleOf m)) ≡ true → fit (x .width) (x .columns) ≡ true
-      → (block exit : List ℕ) → block ≡ reboundAt b (handleOf m) (wordsOf (x .columns)) (length (x .columns)) (x .width)
+      → (words exit : List ℕ) → words ≡ reboundAt b (handleOf m) (wordsOf (x .columns)) (length (x .columns)) (x .width)
       → exit ≡ lay reply 0 (fourWords msg 0 0 0)
-      → Answers (seatMessage rows (seatOf b) m) (record { refusal = 0; count = 16 }) block reply exit
+      → Answers (seatMessage rows (seatOf b) m) (record { refusal = 0; count = 16 }) words reply exit
   unfolding firstCause le
-  bound-answers x e o f block exit p w =
+  bound-answers x e o f words exit p w =
       let d : seatMessage rows (seatOf b) m ≡ doneOn rows 3 (seatIn b) m = body-done b m reply msg 3 a rows (rw (e, o, f)) in
       rw d
       record {
         refused = refl;
         counted = refl;
-        kept = p ∙ bound-block x e (open-some (cursorIn (seatIn b) (handleOf m)) o);
+        kept = p ∙ bound-words x e (open-some (cursorIn (seatIn b) (handleOf m)) o);
         written = w ∙ lay-front reply (fourWords msg 0 0 0) ∙ ap (λ (k : ℕ). fourWords k 0 0 0 ++ drop 16 reply) (a .msg-is);
       }
 

@@ -15,9 +15,9 @@ use Rattle.catalogue.specs.Plain.{Row}
 use Rattle.wire.specs.Laid.{lay, fourWords}
 use Rattle.table.specs.Layout.{cursorSize, cursorPlace}
 use Rattle.lists.specs.Parts.{put, zeros}
-use Rattle.table.specs.Seat.{Cursor, Seat, cursorBlock, seatBlock, seatIn, seatOf, cursorIn, withCursor}
+use Rattle.table.specs.Seat.{Cursor, Seat, cursorWords, seatWords, seatIn, seatOf, cursorIn, withCursor}
 use Rattle.table.specs.Fits.{CursorOk, SeatOk}
-use Rattle.table.proofs.Seats.{cursor-block, seat-block}
+use Rattle.table.proofs.Seats.{cursor-words, seat-words}
 use Rattle.table.proofs.Writes.{first-put, second-put}
 use Rattle.refusal.specs.Refusal.{firstCause}
 use Rattle.message.specs.Message.{handleOf, freed, bodyCauses, doneOn, seatMessage}
@@ -27,18 +27,18 @@ use Rattle.message.proofs.Answering.{lay-front, seat-is, seat-fits, bod
 
 -- a cursor put under a handle is that of the seat with the cursor
 pub put-handle : (s : Seat) (handle : ℕ) (o : Option Cursor) → CursorOk (s .first) → CursorOk (s .second)
-    → put (seatBlock (some s)) (cursorPlace handle) cursorSize (cursorBlock o) ≡ seatBlock (some (withCursor s handle o))
+    → put (seatWords (some s)) (cursorPlace handle) cursorSize (cursorWords o) ≡ seatWords (some (withCursor s handle o))
 put-handle s handle o f g =
     by-test (eqb handle 1)
-    (λ q. rw q (first-put s o (cursor-block (s .first) f .size)))
-    (λ q. rw q (second-put s o (cursor-block (s .first) f .size) (cursor-block (s .second) g .size)))
+    (λ q. rw q (first-put s o (cursor-words (s .first) f .size)))
+    (λ q. rw q (second-put s o (cursor-words (s .first) f .size) (cursor-words (s .second) g .size)))
 
 pub with-fits : (s : Seat) (handle : ℕ) (o : Option Cursor) → CursorOk (s .first) → CursorOk (s .second) → CursorOk o → SeatOk (some (withCursor s handle o))
 with-fits s handle o f g h = by-test (eqb handle 1) (λ q. rw q (h, g)) (λ q. rw q (f, h))
 
--- the seat that the block of a seat holds
-pub seat-read : (s : Seat) → SeatOk (some s) → seatIn (seatBlock (some s)) ≡ s
-seat-read s f = some-is (seat-block (some s) f .held)
+-- the seat that the words of a seat hold
+pub seat-read : (s : Seat) → SeatOk (some s) → seatIn (seatWords (some s)) ≡ s
+seat-read s f = some-is (seat-words (some s) f .held)
 
 -- bytes laid after the first sixteen
 lay-after : (t a b : List ℕ) → length a ≡ 16 → lay (lay t 0 a) 16 b ≡ (a ++ b) ++ drop (16 + length b) t
@@ -60,10 +60,10 @@ module _ (b m reply : List ℕ) (msg : ℕ) (a : Admitted b m reply msg 0) (rows
   unfolding firstCause
   body-there e = rw (ne-eqb (length m) 16 e)
 
-  pub disconnected : length m ≡ 16 → (block : List ℕ) → block ≡ zeros (length b)
-      → Answers (seatMessage rows (seatOf b) m) (record { refusal = 0; count = 0 }) block reply reply
+  pub disconnected : length m ≡ 16 → (words : List ℕ) → words ≡ zeros (length b)
+      → Answers (seatMessage rows (seatOf b) m) (record { refusal = 0; count = 0 }) words reply reply
   unfolding firstCause
-  disconnected e block z =
+  disconnected e words z =
       let o : seatMessage rows (seatOf b) m ≡ doneOn rows 0 (seatIn b) m = body-done b m reply msg 0 a rows (rw (eq-eqb (length m) 16 e)) in
       rw o record { refused = refl; counted = refl; kept = z ∙ ap zeros (a .given .size); written = refl }
 
@@ -77,19 +77,19 @@ module _ (b m reply : List ℕ) (msg : ℕ) (a : Admitted b m reply msg 1) (rows
   unfolding firstCause
   not-open e o = rw (eq-eqb (length m) 20 e, o)
 
-  pub freed-block : put b (cursorPlace (handleOf m)) cursorSize (cursorBlock none) ≡ seatBlock (some (freed (seatIn b) m))
-  freed-block =
-      ap (λ (x : List ℕ). put x (cursorPlace (handleOf m)) cursorSize (cursorBlock none)) (seat-is b m reply msg 1 a)
+  pub freed-words : put b (cursorPlace (handleOf m)) cursorSize (cursorWords none) ≡ seatWords (some (freed (seatIn b) m))
+  freed-words =
+      ap (λ (x : List ℕ). put x (cursorPlace (handleOf m)) cursorSize (cursorWords none)) (seat-is b m reply msg 1 a)
       ∙ put-handle (seatIn b) (handleOf m) none (seat-fits b m reply msg 1 a .0) (seat-fits b m reply msg 1 a .1)
 
-  pub freed-answers : length m ≡ 20 → isOpen (cursorIn (seatIn b) (handleOf m)) ≡ true → (block exit : List ℕ) (left : ℕ)
-      → block ≡ put b (cursorPlace (handleOf m)) cursorSize (cursorBlock none) → left ≡ stillOpen (seatIn block)
+  pub freed-answers : length m ≡ 20 → isOpen (cursorIn (seatIn b) (handleOf m)) ≡ true → (words exit : List ℕ) (left : ℕ)
+      → words ≡ put b (cursorPlace (handleOf m)) cursorSize (cursorWords none) → left ≡ stillOpen (seatIn words)
       → exit ≡ lay (lay reply 0 (fourWords msg 0 0 0)) 16 (le 4 left)
-      → Answers (seatMessage rows (seatOf b) m) (record { refusal = 0; count = 20 }) block reply exit
+      → Answers (seatMessage rows (seatOf b) m) (record { refusal = 0; count = 20 }) words reply exit
   unfolding firstCause le
-  freed-answers e o block exit left p l w =
+  freed-answers e o words exit left p l w =
       let d : seatMessage rows (seatOf b) m ≡ doneOn rows 1 (seatIn b) m = body-done b m reply msg 1 a rows (rw (eq-eqb (length m) 20 e, o)) in
-      let k : block ≡ seatBlock (some (freed (seatIn b) m)) = p ∙ freed-block in
+      let k : words ≡ seatWords (some (freed (seatIn b) m)) = p ∙ freed-words in
       let n : left ≡ stillOpen (freed (seatIn b) m)
       = l ∙ ap (λ (x : List ℕ). stillOpen (seatIn x)) k
       ∙ ap stillOpen (seat-read (freed (seatIn b) m) (with-fits (seatIn b) (handleOf m) none (seat-fits b m reply msg 1 a .0) (seat-fits b m reply msg 1 a .1) tt)) in

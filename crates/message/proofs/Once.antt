@@ -6,11 +6,11 @@ use Rattle.message.specs.Message.{SeatOutcome}
 use Rattle.message.specs.Answers.{Answers}
 use Rattle.message.specs.declared.Answered.{Answered}
 
--- the same answer, the same block, the same bytes
-pub record Same (r r′ : Answered) (block block′ exit exit′ : List ℕ) : Type 0 where
+-- the same answer, the same words, the same bytes
+pub record Same (r r′ : Answered) (words words′ exit exit′ : List ℕ) : Type 0 where
   pub refused : r .refusal ≡ r′ .refusal
   pub counted : r .count ≡ r′ .count
-  pub kept : block ≡ block′
+  pub kept : words ≡ words′
   pub written : exit ≡ exit′
 
 pub answers-once : (o : SeatOutcome) (r r′ : Answered) (b b′ entry x x′ : List ℕ) → Answers o r b entry x → Answers o r′ b′ entry x′ → Same r r′ b b′ x x′

@@ -13,10 +13,10 @@ use Rattle.catalogue.specs.Plain.{catalogue, rowsOf}
 use Rattle.wire.specs.Laid.{lay, fourWords}
 use Rattle.table.specs.Layout.{cursorSize, cursorPlace}
 use Rattle.lists.specs.Parts.{part, put}
-use Rattle.table.specs.Seat.{Cursor, Seat, cursorBlock, cursorHeld, seatIn, seatOf, cursorIn}
+use Rattle.table.specs.Seat.{Cursor, Seat, cursorWords, cursorHeld, seatIn, seatOf, cursorIn}
 use Rattle.table.specs.Well.{cursorBelow, seatBelow}
 use Rattle.table.specs.Fits.{CursorFits, CursorOk}
-use Rattle.table.proofs.Seats.{cursor-block}
+use Rattle.table.proofs.Seats.{cursor-words}
 use Rattle.lists.proofs.Parts.{part-is}
 use Rattle.fetch.specs.Request.{request}
 use Rattle.fetch.specs.declared.Request.{Request}
@@ -29,7 +29,7 @@ use Rattle.message.specs.Message.{handleOf, bodyCauses, rowsDone, refuse
 use Rattle.table.specs.Open.{isOpen}
 use Rattle.message.specs.Answers.{Admitted, Sourced, Answers}
 use Rattle.message.specs.declared.Answered.{Answered}
-use Rattle.message.proofs.Answering.{held, block-is, seat-is, seat-fits, refused-answers, body-refused, body-done}
+use Rattle.message.proofs.Answering.{held, words-is, seat-is, seat-fits, refused-answers, body-refused, body-done}
 use Rattle.table.proofs.Handles.{place-inside, put-is}
 use Rattle.message.proofs.Bodies.{put-handle}
 use Rattle.message.proofs.Binding.{open-some, part-handle}
@@ -60,10 +60,10 @@ module _ (b m reply : List ℕ) (msg : ℕ) (a : Admitted b m reply msg 2) (s pl
     unfolding firstCause
     rows-closed o = rw (e, o)
 
-    -- the block of the cursor, and what fetching relies on
+    -- the words of the cursor, and what fetching relies on
     module _ (c : Cursor) (k : cursorIn (seatIn b) (handleOf m) ≡ some c) where
-      part-is-block : part b (cursorPlace (handleOf m)) cursorSize ≡ cursorBlock (some c)
-      part-is-block =
+      part-is-words : part b (cursorPlace (handleOf m)) cursorSize ≡ cursorWords (some c)
+      part-is-words =
           ap (λ (x : List ℕ). part x (cursorPlace (handleOf m)) cursorSize) (seat-is b m reply msg 2 a)
           ∙ part-handle (seatIn b) (handleOf m) c (seat-fits b m reply msg 2 a .0) (seat-fits b m reply msg 2 a .1) k
 
@@ -71,7 +71,7 @@ module _ (b m reply : List ℕ) (msg : ℕ) (a : Admitted b m reply msg 2) (s pl
       fits = cursor-fits (seatIn b) (handleOf m) c (seat-fits b m reply msg 2 a .0) (seat-fits b m reply msg 2 a .1) k
 
       held-is : cursorHeld (part b (cursorPlace (handleOf m)) cursorSize) ≡ c
-      held-is = ap cursorHeld part-is-block ∙ some-is (cursor-block (some c) fits .held)
+      held-is = ap cursorHeld part-is-words ∙ some-is (cursor-words (some c) fits .held)
 
       below : cursorBelow (length (rowsOf (catalogue s))) (some c) ≡ true
       below =
@@ -81,7 +81,7 @@ module _ (b m reply : List ℕ) (msg : ℕ) (a : Admitted b m reply msg 2) (s pl
       pub fetch-ready : FetchReady (part b (cursorPlace (handleOf m)) cursorSize) s places q (length reply)
       fetch-ready =
           record {
-            held = part-is-block ∙ ap (λ (x : Cursor). cursorBlock (some x)) (sym held-is);
+            held = part-is-words ∙ ap (λ (x : Cursor). cursorWords (some x)) (sym held-is);
             fits = subst CursorFits (sym held-is) fits;
             below = subst (λ (x : Cursor). cursorBelow (length (rowsOf (catalogue s))) (some x) ≡ true) (sym held-is) below;
             placed = z .placed;
@@ -94,23 +94,23 @@ module _ (b m reply : List ℕ) (msg : ℕ) (a : Admitted b m reply msg 2) (s pl
       unfolding firstCause
       causes-are = rw (e, k) (ap (λ (x : Cursor). firstCause (fetchCauses (rowsOf (catalogue s)) x q)) (sym held-is))
 
-      -- refused: the cursor's part is as it was, and so is the seat's block
-      pub rows-refused : (n : ℕ) (block mid : List ℕ) → Fetched (part b (cursorPlace (handleOf m)) cursorSize) s q n block reply mid → (n ≡ 0 → ⊥)
+      -- refused: the cursor's part is as it was, and so are the seat's words
+      pub rows-refused : (n : ℕ) (words mid : List ℕ) → Fetched (part b (cursorPlace (handleOf m)) cursorSize) s q n words reply mid → (n ≡ 0 → ⊥)
           → seatMessage (rowsOf (catalogue s)) (seatOf b) m ≡ refusedOn n (seatOf b) m
-      rows-refused n block mid f h = body-refused b m reply msg 2 a (rowsOf (catalogue s)) n (causes-are ∙ sym (f .refused)) h
+      rows-refused n words mid f h = body-refused b m reply msg 2 a (rowsOf (catalogue s)) n (causes-are ∙ sym (f .refused)) h
 
-      pub block-back : (n : ℕ) (block mid : List ℕ) → Fetched (part b (cursorPlace (handleOf m)) cursorSize) s q n block reply mid → (n ≡ 0 → ⊥)
-          → put b (cursorPlace (handleOf m)) cursorSize block ≡ b
-      block-back n block mid f h =
+      pub words-back : (n : ℕ) (words mid : List ℕ) → Fetched (part b (cursorPlace (handleOf m)) cursorSize) s q n words reply mid → (n ≡ 0 → ⊥)
+          → put b (cursorPlace (handleOf m)) cursorSize words ≡ b
+      words-back n words mid f h =
           ap (put b (cursorPlace (handleOf m)) cursorSize) (f .unmoved h)
           ∙ ap (λ (x : List ℕ). take (cursorPlace (handleOf m)) b ++ x) (take-append-drop cursorSize (drop (cursorPlace (handleOf m)) b))
           ∙ take-append-drop (cursorPlace (handleOf m)) b
 
       -- done: the cursor is moved, and the reply is the page
-      pub rows-answered : (block exit : List ℕ) → Fetched (part b (cursorPlace (handleOf m)) cursorSize) s q 0 block reply exit
+      pub rows-answered : (words exit : List ℕ) → Fetched (part b (cursorPlace (handleOf m)) cursorSize) s q 0 words reply exit
           → Answers (seatMessage (rowsOf (catalogue s)) (seatOf b) m) (record { refusal = 0; count = q .size })
-          (put b (cursorPlace (handleOf m)) cursorSize block) reply exit
-      rows-answered block exit f =
+          (put b (cursorPlace (handleOf m)) cursorSize words) reply exit
+      rows-answered words exit f =
           let d : seatMessage (rowsOf (catalogue s)) (seatOf b) m ≡ rowsDone (rowsOf (catalogue s)) (seatIn b) (handleOf m) (some c) (some q)
           = body-done b m reply msg 2 a (rowsOf (catalogue s)) (causes-are ∙ sym (f .refused))
           ∙ ap₂ (rowsDone (rowsOf (catalogue s)) (seatIn b) (handleOf m)) k e in
@@ -121,8 +121,8 @@ module _ (b m reply : List ℕ) (msg : ℕ) (a : Admitted b m reply msg 2) (s pl
           record {
             refused = refl;
             counted = sym l;
-            kept = ap (put b (cursorPlace (handleOf m)) cursorSize) (f .moved refl ∙ ap (λ (x : Cursor). cursorBlock (some (fetched (rowsOf (catalogue s)) x q))) held-is)
-                ∙ ap (λ (x : List ℕ). put x (cursorPlace (handleOf m)) cursorSize (cursorBlock (some (fetched (rowsOf (catalogue s)) c q)))) (seat-is b m reply msg 2 a)
+            kept = ap (put b (cursorPlace (handleOf m)) cursorSize) (f .moved refl ∙ ap (λ (x : Cursor). cursorWords (some (fetched (rowsOf (catalogue s)) x q))) held-is)
+                ∙ ap (λ (x : List ℕ). put x (cursorPlace (handleOf m)) cursorSize (cursorWords (some (fetched (rowsOf (catalogue s)) c q)))) (seat-is b m reply msg 2 a)
                 ∙ put-handle (seatIn b) (handleOf m) (some (fetched (rowsOf (catalogue s)) c q)) (seat-fits b m reply msg 2 a .0) (seat-fits b m reply msg 2 a .1);
             written = f .written refl
                 ∙ ap₂ (λ (x : Cursor) (n : ℕ). fetchReply (rowsOf (catalogue s)) x q ++ drop n reply) held-is (sym l);
@@ -145,15 +145,15 @@ module _ (b m reply : List ℕ) (msg : ℕ) (a : Admitted b m reply msg 2) (s pl
       lent-is : take (at + cursorSize - at) (drop at b) ≡ part b (cursorPlace (handleOf m)) cursorSize
       lent-is = part-is b at cursorSize ∙ ap (λ (x : ℕ). part b x cursorSize) place-is
 
-      left-is : (block : List ℕ) → put b at (at + cursorSize - at) block ≡ put b (cursorPlace (handleOf m)) cursorSize block
-      left-is block = put-is b at block ∙ ap (λ (x : ℕ). put b x cursorSize block) place-is
+      left-is : (words : List ℕ) → put b at (at + cursorSize - at) words ≡ put b (cursorPlace (handleOf m)) cursorSize words
+      left-is words = put-is b at words ∙ ap (λ (x : ℕ). put b x cursorSize words) place-is
 
       pub ready-at : FetchReady (take (at + cursorSize - at) (drop at b)) s places q (length reply)
       ready-at = subst (λ (x : List ℕ). FetchReady x s places q (length reply)) (sym lent-is) (fetch-ready (cursor .0) (cursor .1))
 
-      module _ (n : ℕ) (block mid : List ℕ) (f : Fetched (take (at + cursorSize - at) (drop at b)) s q n block reply mid) where
-        fetched-is : Fetched (part b (cursorPlace (handleOf m)) cursorSize) s q n block reply mid
-        fetched-is = subst (λ (x : List ℕ). Fetched x s q n block reply mid) lent-is f
+      module _ (n : ℕ) (words mid : List ℕ) (f : Fetched (take (at + cursorSize - at) (drop at b)) s q n words reply mid) where
+        fetched-is : Fetched (part b (cursorPlace (handleOf m)) cursorSize) s q n words reply mid
+        fetched-is = subst (λ (x : List ℕ). Fetched x s q n words reply mid) lent-is f
 
         pub refusal-small : n < 17
         refusal-small =
@@ -161,17 +161,17 @@ module _ (b m reply : List ℕ) (msg : ℕ) (a : Admitted b m reply msg 2) (s pl
 
         pub refused-at : (n ≡ 0 → ⊥) → (exit : List ℕ) (r : Answered) → r ≡ record { refusal = n; count = 16 }
             → exit ≡ lay mid 0 (fourWords msg (statusOf n) 0 0)
-            → Answers (seatMessage (rowsOf (catalogue s)) (seatOf b) m) r (put b at (at + cursorSize - at) block) reply exit
+            → Answers (seatMessage (rowsOf (catalogue s)) (seatOf b) m) r (put b at (at + cursorSize - at) words) reply exit
         refused-at h exit r t w =
-            rw (left-is block, block-back (cursor .0) (cursor .1) n block mid fetched-is h)
-            (refused-answers (rowsOf (catalogue s)) b m reply exit msg n r (block-is b m reply (a .given)) (a .msg-is)
-            (rows-refused (cursor .0) (cursor .1) n block mid fetched-is h)
+            rw (left-is words, words-back (cursor .0) (cursor .1) n words mid fetched-is h)
+            (refused-answers (rowsOf (catalogue s)) b m reply exit msg n r (words-is b m reply (a .given)) (a .msg-is)
+            (rows-refused (cursor .0) (cursor .1) n words mid fetched-is h)
             t
             (w ∙ ap (λ (x : List ℕ). lay x 0 (fourWords msg (statusOf n) 0 0)) (f .unwritten h)))
 
         pub answered-at : n ≡ 0 → Answers (seatMessage (rowsOf (catalogue s)) (seatOf b) m) (record { refusal = 0; count = q .size })
-            (put b at (at + cursorSize - at) block) reply mid
+            (put b at (at + cursorSize - at) words) reply mid
         answered-at h =
-            rw (left-is block)
-            (rows-answered (cursor .0) (cursor .1) block mid
-            (subst (λ (x : ℕ). Fetched (part b (cursorPlace (handleOf m)) cursorSize) s q x block reply mid) h fetched-is))
+            rw (left-is words)
+            (rows-answered (cursor .0) (cursor .1) words mid
+            (subst (λ (x : ℕ). Fetched (part b (cursorPlace (handleOf m)) cursorSize) s q x words reply mid) h fetched-is))

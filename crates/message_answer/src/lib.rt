@@ -79,7 +79,7 @@ fn fetch(
     }
 }
 
-// A message on its seat's block.
+// A message on its seat's words.
 pub fn answer(
     seat: &mut [u32],
     message: &[u8],

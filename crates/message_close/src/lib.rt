@@ -4,7 +4,7 @@ ghost use mathlib.Core.Option.{none};
 ghost use lib.ListN.{length};
 ghost use Rattle.table.specs.Layout.{seatSize, cursorSize, cursorPlace};
 ghost use Rattle.lists.specs.Parts.{put};
-ghost use Rattle.table.specs.Seat.{cursorBlock};
+ghost use Rattle.table.specs.Seat.{cursorWords};
 ghost use Rattle.message.specs.Answers.{Admitted, AnswersAny};
 use message::Answered;
 
@@ -14,7 +14,7 @@ const FREE_SIZE: usize = wire::HEADER_SIZE + 4;
 // Closes the cursor of a handle.
 fn close(seat: &mut [u32], handle: u32)
     requires { ⌜ length (now seat) ≡ seatSize ⌝ }
-    ensures { λ _. ⌜ now (seat .exit) ≡ put (now (seat .entry)) (cursorPlace handle) cursorSize (cursorBlock none) ⌝ }
+    ensures { λ _. ⌜ now (seat .exit) ≡ put (now (seat .entry)) (cursorPlace handle) cursorSize (cursorWords none) ⌝ }
 {
     let at = table_handle::cursor_at(handle);
     let end = at + table::CURSOR_SIZE;

@@ -13,10 +13,10 @@ use Rattle.catalogue.specs.Plain.{catalogue, rowsOf}
 use Rattle.tree.specs.Reader.{restriction}
 use Rattle.tree.specs.Select.{selectedBy}
 use Rattle.table.specs.Layout.{seats}
-use Rattle.table.specs.Seat.{Seat, seatBlock, seatOf, fresh, opened}
+use Rattle.table.specs.Seat.{Seat, seatWords, seatOf, fresh, opened}
 use Rattle.table.specs.Fits.{SeatOk}
 use Rattle.table.specs.Well.{tableWell}
-use Rattle.table.proofs.Seats.{seat-block}
+use Rattle.table.proofs.Seats.{seat-words}
 use Rattle.table.proofs.Tables.{seat-same, seat-other}
 use Rattle.refusal.specs.Refusal.{firstCause}
 use Rattle.refusal.proofs.First.{first-go}
@@ -71,11 +71,11 @@ causes-left src t seat rest p h = first-go (judging src t seat) rest (judging-nu
 
 -- a seat put in a table: that seat holds it, the others are as they were
 pub held-same : (t : List ℕ) → tableWell t ≡ true → (seat : ℕ) → seat < seats → (s : Option Seat) → SeatOk s → seatHeld (seated t seat s) seat ≡ s
-held-same t w seat h s f = ap seatOf (seat-same t w seat h (seatBlock s) (seat-block s f .size)) ∙ seat-block s f .held
+held-same t w seat h s f = ap seatOf (seat-same t w seat h (seatWords s) (seat-words s f .size)) ∙ seat-words s f .held
 
 pub held-other : (t : List ℕ) → tableWell t ≡ true → (seat : ℕ) → seat < seats → (s : Option Seat) → SeatOk s
     → (k : ℕ) → k < seats → (k ≡ seat → ⊥) → seatHeld (seated t seat s) k ≡ seatHeld t k
-held-other t w seat h s f k l d = ap seatOf (seat-other t w seat h (seatBlock s) (seat-block s f .size) k l d)
+held-other t w seat h s f k l d = ap seatOf (seat-other t w seat h (seatWords s) (seat-words s f .size) k l d)
 
 -- a call's answer and its seat afterwards are those by its seat alone, and another seat is as it was
 pub record Agrees (t : List ℕ) (seat : ℕ) (o : Outcome) (w : Own) : Type 0 where

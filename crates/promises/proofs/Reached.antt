@@ -11,11 +11,11 @@ use lib.ListN.{length, take, replicate, length-replicate, replicate-append-repli
 use lib.Seq.{take-at, drop-at}
 use Rattle.lists.proofs.Below.{true≢false, both-true, every-shown}
 use Rattle.catalogue.specs.Plain.{Row, catalogue}
-use Rattle.table.specs.Layout.{seats, seatSize, seatAt, tableSize, blockOf}
+use Rattle.table.specs.Layout.{seats, seatSize, seatAt, tableSize, seatPart}
 use Rattle.lists.specs.Parts.{part}
-use Rattle.table.specs.Seat.{seatBlock, seatOf}
+use Rattle.table.specs.Seat.{seatWords, seatOf}
 use Rattle.table.specs.Well.{seatWell, tableWell, seatBelow, tableBelow}
-use Rattle.table.proofs.Seats.{seat-block}
+use Rattle.table.proofs.Seats.{seat-words}
 use Rattle.call.specs.Step.{Sources, sourcesOf, rowsHold, seatHeld}
 use Rattle.call.proofs.Passing.{Passing, connect-passes, open-passes, message-passes}
 use Rattle.promises.specs.Calls.{Call, connecting, opening, messaging, step, after, freshTable}
@@ -53,24 +53,24 @@ part-zero total at n rest e =
     ∙ ap (take n) (drop-at (replicate at 0) (replicate n 0 ++ replicate rest 0) at (length-replicate at 0))
     ∙ take-at (replicate n 0) (replicate rest 0) n (length-replicate n 0)
 
-zero-block : (seat : ℕ) → seat < seats → blockOf freshTable seat ≡ seatBlock none
+zero-words : (seat : ℕ) → seat < seats → seatPart freshTable seat ≡ seatWords none
 unfolding freshTable
-zero-block seat h = part-zero tableSize (seatAt seat) seatSize (tableSize - (seatAt seat + seatSize)) (omega arith)
+zero-words seat h = part-zero tableSize (seatAt seat) seatSize (tableSize - (seatAt seat + seatSize)) (omega arith)
 
 pub fresh-seat : (seat : ℕ) → seat < seats → seatHeld freshTable seat ≡ none
-fresh-seat seat h = ap seatOf (zero-block seat h) ∙ seat-block none tt .held
+fresh-seat seat h = ap seatOf (zero-words seat h) ∙ seat-words none tt .held
 
 pub fresh-well : tableWell freshTable ≡ true
 unfolding tableWell freshTable
 fresh-well =
     both-true (eqb (length freshTable) tableSize) _
     (eq-eqb (length freshTable) tableSize (length-replicate {A = ℕ} tableSize 0))
-    (every-shown seats (λ seat. seatWell (blockOf freshTable seat)) (λ seat h. ap seatWell (zero-block seat h) ∙ seat-block none tt .well))
+    (every-shown seats (λ seat. seatWell (seatPart freshTable seat)) (λ seat h. ap seatWell (zero-words seat h) ∙ seat-words none tt .well))
 
 pub fresh-below : (bound : ℕ) → tableBelow bound freshTable ≡ true
 unfolding tableBelow
 fresh-below bound =
-    every-shown seats (λ seat. seatBelow bound (seatOf (blockOf freshTable seat))) (λ seat h. ap (seatBelow bound) (fresh-seat seat h))
+    every-shown seats (λ seat. seatBelow bound (seatOf (seatPart freshTable seat))) (λ seat h. ap (seatBelow bound) (fresh-seat seat h))
 
 pub fresh-passes : (s : List ℕ) (rows : List Row) → catalogue s ≡ some rows → Passing (sourcesOf s) freshTable
 fresh-passes s rows e =

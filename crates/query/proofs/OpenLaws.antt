@@ -23,9 +23,9 @@ use Rattle.tree.proofs.Selection.{numbers-few}
 use Rattle.tree.proofs.SelectLaws as Laws
 use Rattle.table.specs.Layout.{cursorSize, rowsSize}
 use Rattle.lists.specs.Parts.{put, zeros}
-use Rattle.table.specs.Seat.{Seat, cursorBlock, seatIn, seatOf, opened}
+use Rattle.table.specs.Seat.{Seat, cursorWords, seatIn, seatOf, opened}
 use Rattle.table.proofs.Tables.{put-length}
-use Rattle.table.proofs.Writes.{opened-block}
+use Rattle.table.proofs.Writes.{opened-words}
 use Rattle.refusal.specs.Refusal.{firstCause}
 use Rattle.table.specs.Open.{isOpen}
 use Rattle.query.specs.Open.{freeHandle, openCauses}
@@ -108,11 +108,11 @@ selected-few tree s rows noted n = go (restriction tree) (catalogue s) refl
     go (some t) (some found) e =
         omega (arith, numbers-few 0 (holds t) found, rows-most s rows noted found n e, Laws.few s rows noted n)
 
-pub closed-length : (b : List ℕ) → b ≡ cursorBlock none → length b ≡ cursorSize
+pub closed-length : (b : List ℕ) → b ≡ cursorWords none → length b ≡ cursorSize
 closed-length b e = ap length e ∙ length-replicate {A = ℕ} cursorSize 0
 
--- a closed cursor's block, with the selection in its place and two words set, is that of the cursor opened
-module _ (b selection into : List ℕ) (e : b ≡ cursorBlock none) (h : length selection ≤ rowsSize)
+-- a closed cursor's words, with the selection in their place and two words set, are those of the cursor opened
+module _ (b selection into : List ℕ) (e : b ≡ cursorWords none) (h : length selection ≤ rowsSize)
     (l : into ≡ selection ++ drop (length selection) (take rowsSize (drop 50 b))) where
   into-is : into ≡ selection ++ zeros (rowsSize - length selection)
   into-is =
@@ -127,7 +127,7 @@ module _ (b selection into : List ℕ) (e : b ≡ cursorBlock none) (h : length 
       ∙ omega (arith, length-append selection (zeros (rowsSize - length selection)), length-replicate {A = ℕ} (rowsSize - length selection) 0, h))
       ∙ closed-length b e
 
-  pub filled : (count : ℕ) → count ≡ length selection → set (set (put b 50 rowsSize into) 0 1) 2 count ≡ cursorBlock (some (opened selection))
+  pub filled : (count : ℕ) → count ≡ length selection → set (set (put b 50 rowsSize into) 0 1) 2 count ≡ cursorWords (some (opened selection))
   filled count c =
       ap₂ (λ (x : List ℕ) (n : ℕ). set (set x 0 1) 2 n) (ap₂ (λ (x y : List ℕ). put x 50 rowsSize y) e into-is) c
-      ∙ opened-block selection h
+      ∙ opened-words selection h

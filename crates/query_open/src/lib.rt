@@ -5,7 +5,7 @@ ghost use mathlib.Core.Bool.{true};
 ghost use mathlib.Core.Option.{none, some};
 ghost use Rattle.table.specs.Layout.{seatSize, cursorSize, cursorPlace};
 ghost use Rattle.lists.specs.Parts.{part, put};
-ghost use Rattle.table.specs.Seat.{seatIn, seatOf, cursorBlock, opened};
+ghost use Rattle.table.specs.Seat.{seatIn, seatOf, cursorWords, opened};
 ghost use Rattle.query.specs.Open.{freeHandle};
 ghost use Rattle.query.specs.Answer.{Judged};
 ghost use Rattle.tree.specs.Reader.{restriction};
@@ -28,7 +28,7 @@ fn free_handle(seat: &[u32]) -> u32
     0
 }
 
-// Refusals 7, 14 and 16 on a seat's block, or the handle to open.
+// Refusals 7, 14 and 16 on a seat's words, or the handle to open.
 pub fn judge(seat: &[u32], tree: &[u8]) -> Opened
     requires { ⌜ length (now seat) ≡ seatSize ⌝ }
     ensures { λ r. ⌜ Judged (seatOf (now (seat .entry))) (now (tree .entry)) r ⌝ }
@@ -63,8 +63,8 @@ fn fill(
     rows: u32,
     places: &[u32; catalogue::ROWS_MOST],
 )
-    requires { ⌜ (now cursor ≡ cursorBlock none) × (isTree (restriction (now tree)) ≡ true) × Noted (now catalogue) rows (now places) ⌝ }
-    ensures { λ _. ⌜ now (cursor .exit) ≡ cursorBlock (some (opened (selected (now (tree .entry)) (now (catalogue .entry))))) ⌝ }
+    requires { ⌜ (now cursor ≡ cursorWords none) × (isTree (restriction (now tree)) ≡ true) × Noted (now catalogue) rows (now places) ⌝ }
+    ensures { λ _. ⌜ now (cursor .exit) ≡ cursorWords (some (opened (selected (now (tree .entry)) (now (catalogue .entry))))) ⌝ }
 {
     let count = tree_select::select(
         tree,
@@ -76,7 +76,7 @@ fn fill(
     table_write::open(cursor, count);
 }
 
-// The same in a seat's block, under a handle.
+// The same in a seat's words, under a handle.
 pub fn open(
     seat: &mut [u32],
     handle: u32,
@@ -85,8 +85,8 @@ pub fn open(
     rows: u32,
     places: &[u32; catalogue::ROWS_MOST],
 )
-    requires { ⌜ (length (now seat) ≡ seatSize) × (part (now seat) (cursorPlace handle) cursorSize ≡ cursorBlock none) × (isTree (restriction (now tree)) ≡ true) × Noted (now catalogue) rows (now places) ⌝ }
-    ensures { λ _. ⌜ now (seat .exit) ≡ put (now (seat .entry)) (cursorPlace handle) cursorSize (cursorBlock (some (opened (selected (now (tree .entry)) (now (catalogue .entry)))))) ⌝ }
+    requires { ⌜ (length (now seat) ≡ seatSize) × (part (now seat) (cursorPlace handle) cursorSize ≡ cursorWords none) × (isTree (restriction (now tree)) ≡ true) × Noted (now catalogue) rows (now places) ⌝ }
+    ensures { λ _. ⌜ now (seat .exit) ≡ put (now (seat .entry)) (cursorPlace handle) cursorSize (cursorWords (some (opened (selected (now (tree .entry)) (now (catalogue .entry)))))) ⌝ }
 {
     let at = table_handle::cursor_at(handle);
     let end = at + table::CURSOR_SIZE;

@@ -1,4 +1,4 @@
--- Row numbers that rise are all below a bound where the last one is; and what a well block says of its cursor's.
+-- Row numbers that rise are all below a bound where the last one is; and what words that are well say of their cursor's.
 -- Assumes nothing.
 use mathlib.Core.Path.{_≡_, refl, sym, ap, _∙_}
 use mathlib.Core.Bool.{Bool, true}
@@ -19,7 +19,7 @@ use Rattle.table.specs.Seat.{cursorHeld, cursorOf, seatOf}
 use Rattle.table.specs.Well.{openWell, cursorWell, seatWell, cursorBelow, seatBelow}
 use Rattle.table.specs.Fits.{CursorFits}
 use Rattle.lists.specs.Rising.{Rises}
-use Rattle.table.proofs.Blocks.{cursor-back}
+use Rattle.table.proofs.Cursors.{cursor-back}
 
 -- the last of rising numbers is the greatest
 greatest : (rows : List ℕ) → Rises rows → (left i : ℕ) → i + left + 1 ≡ length rows → getD rows i 0 ≤ getD rows (length rows - 1) 0
@@ -57,7 +57,7 @@ open-fits b l w o = rw (ne-eqb (getD b openAt 0) 0 o) at (cursor-back b l w .1)
 pub below-open : (bound : ℕ) (b : List ℕ) → (getD b openAt 0 ≡ 0 → ⊥) → cursorBelow bound (cursorOf b) ≡ every (λ row. ltb row bound) (cursorHeld b .selection)
 below-open bound b o = rw (ne-eqb (getD b openAt 0) 0 o)
 
--- the words of an open block that is well
+-- the words of an open cursor, that are well
 pub open-well : (b : List ℕ) → cursorWell b ≡ true → (getD b openAt 0 ≡ 0 → ⊥) → openWell b ≡ true
 unfolding cursorWell
 open-well b w o =
@@ -91,7 +91,7 @@ below-last bound b l w o n =
     place : rowsAt + (count - 1) ≡ rowsAt + count - 1
     place = omega arith
 
--- the cursors of a connected block that is well
+-- the cursors of a connected seat whose words are well
 pub seat-parts : (b : List ℕ) → seatWell b ≡ true → (getD b connectedAt 0 ≡ 0 → ⊥)
     → (cursorWell (part b firstAt cursorSize) ≡ true) × (cursorWell (part b secondAt cursorSize) ≡ true)
 unfolding seatWell

@@ -47,7 +47,7 @@ count-is (some c) = refl
 pub count-two : (s : Seat) (a b : Bool) → a ≡ isOpen (s .first) → b ≡ isOpen (s .second) → stillOpen s ≡ oneIf a + oneIf b
 count-two s a b p q = ap₂ (λ (x y : ℕ). x + y) (count-is (s .first) ∙ ap oneIf (sym p)) (count-is (s .second) ∙ ap oneIf (sym q))
 
--- a handle's cursor lies in the block
+-- a handle's cursor lies in its seat's words
 pub place-first : (handle : ℕ) → handle ≡ 1 → cursorPlace handle ≡ firstAt
 place-first handle e = rw (eq-eqb handle 1 e)
 
@@ -57,7 +57,7 @@ place-second handle e = rw (ne-eqb handle 1 e)
 pub place-inside : (handle : ℕ) → cursorPlace handle + cursorSize ≤ seatSize
 place-inside handle = by-test (eqb handle 1) (λ q. rw q (omega arith)) (λ q. rw q (omega arith))
 
--- what a cursor's part, lent from its place on, leaves of the block
+-- what a cursor's part, lent from its place on, leaves of the seat's words
 pub put-is : (b : List ℕ) (at : ℕ) (part : List ℕ) → put b at (at + cursorSize - at) part ≡ put b at cursorSize part
 put-is b at part = ap (λ (n : ℕ). put b at n part) size
   where

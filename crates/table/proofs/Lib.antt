@@ -1,5 +1,5 @@
 pub mod Judging
-pub mod Blocks
+pub mod Cursors
 pub mod Shown
 pub mod Seats
 pub mod Tables

@@ -1,4 +1,4 @@
--- A seat's block that is well is the block of the seat that it holds, which fits, and the other way round. Assumes nothing.
+-- A seat's words that are well are the words of the seat that they hold, which fits, and the other way round. Assumes nothing.
 use mathlib.Core.Path.{_≡_, refl, sym, ap, ap₂, _∙_}
 use mathlib.Core.Bool.{true}
 use mathlib.Core.List.{List, _∷_, _++_}
@@ -13,24 +13,24 @@ use Rattle.lists.specs.Below.{both}
 use Rattle.lists.proofs.Below.{by-test, both-left, both-right, both-true}
 use Rattle.table.specs.Layout.{seatSize, cursorSize, connectedAt, versionAt, firstAt, secondAt}
 use Rattle.lists.specs.Parts.{part, zeros}
-use Rattle.table.specs.Seat.{Cursor, Seat, cursorBlock, cursorOf, seatBlock, seatOf}
+use Rattle.table.specs.Seat.{Cursor, Seat, cursorWords, cursorOf, seatWords, seatOf}
 use Rattle.table.specs.Well.{cursorWell, seatWell}
 use Rattle.table.specs.Fits.{CursorOk, SeatOk}
-use Rattle.table.proofs.Blocks.{zero-is, zeros-are, cursor-back}
-use Rattle.table.proofs.Shown.{cursor-held, cursor-shown, block-length}
+use Rattle.table.proofs.Cursors.{zero-is, zeros-are, cursor-back}
+use Rattle.table.proofs.Shown.{cursor-held, cursor-shown, cursor-length}
 
--- a cursor's block, open or not
-pub record Block (o : Option Cursor) : Type 0 where
-  pub size : length (cursorBlock o) ≡ cursorSize
-  pub well : cursorWell (cursorBlock o) ≡ true
-  pub held : cursorOf (cursorBlock o) ≡ o
+-- the words of a cursor, open or not, are well and hold it
+pub record Shows (o : Option Cursor) : Type 0 where
+  pub size : length (cursorWords o) ≡ cursorSize
+  pub well : cursorWell (cursorWords o) ≡ true
+  pub held : cursorOf (cursorWords o) ≡ o
 
-pub cursor-block : (o : Option Cursor) → CursorOk o → Block o
+pub cursor-words : (o : Option Cursor) → CursorOk o → Shows o
 unfolding cursorWell
-cursor-block none f = record { size = length-replicate {A = ℕ} cursorSize 0; well = zeros-are cursorSize; held = refl }
-cursor-block (some c) f = record { size = block-length c f; well = cursor-shown c f; held = cursor-held c f }
+cursor-words none f = record { size = length-replicate {A = ℕ} cursorSize 0; well = zeros-are cursorSize; held = refl }
+cursor-words (some c) f = record { size = cursor-length c f; well = cursor-shown c f; held = cursor-held c f }
 
--- a connected block, taken apart
+-- the words of a connected seat, taken apart
 apart : (b : List ℕ) → length b ≡ seatSize → b ≡ getD b 0 0 ∷ getD b 1 0 ∷ (part b firstAt cursorSize ++ part b secondAt cursorSize)
 apart b l =
     drop-cons b 0 0 (omega arith)
@@ -46,7 +46,7 @@ first-length b l = length-take-le cursorSize (drop firstAt b) (omega (arith, len
 pub second-length : (b : List ℕ) → length b ≡ seatSize → length (part b secondAt cursorSize) ≡ cursorSize
 second-length b l = length-take-le cursorSize (drop secondAt b) (omega (arith, length-drop secondAt b))
 
-pub seat-back : (b : List ℕ) → length b ≡ seatSize → seatWell b ≡ true → (b ≡ seatBlock (seatOf b)) × SeatOk (seatOf b)
+pub seat-back : (b : List ℕ) → length b ≡ seatSize → seatWell b ≡ true → (b ≡ seatWords (seatOf b)) × SeatOk (seatOf b)
 unfolding seatWell
 seat-back b l e =
     by-test (eqb (getD b connectedAt 0) 0)
@@ -54,7 +54,7 @@ seat-back b l e =
     (λ q. rw q (connected (rw q at e)))
   where
     connected : both (eqb (getD b connectedAt 0) 1) (both (cursorWell (part b firstAt cursorSize)) (cursorWell (part b secondAt cursorSize))) ≡ true
-        → (b ≡ 1 ∷ getD b versionAt 0 ∷ (cursorBlock (cursorOf (part b firstAt cursorSize)) ++ cursorBlock (cursorOf (part b secondAt cursorSize))))
+        → (b ≡ 1 ∷ getD b versionAt 0 ∷ (cursorWords (cursorOf (part b firstAt cursorSize)) ++ cursorWords (cursorOf (part b secondAt cursorSize))))
         × (CursorOk (cursorOf (part b firstAt cursorSize)) × CursorOk (cursorOf (part b secondAt cursorSize)))
     connected s =
         let o = eqb-true (getD b connectedAt 0) 1 (both-left _ _ s) in
@@ -67,25 +67,25 @@ seat-back b l e =
           (first .1, second .1),
         )
 
--- a seat's block
+-- the words of a seat, connected or not
 pub record Seated (o : Option Seat) : Type 0 where
-  pub size : length (seatBlock o) ≡ seatSize
-  pub well : seatWell (seatBlock o) ≡ true
-  pub held : seatOf (seatBlock o) ≡ o
+  pub size : length (seatWords o) ≡ seatSize
+  pub well : seatWell (seatWords o) ≡ true
+  pub held : seatOf (seatWords o) ≡ o
 
-pub seat-block : (o : Option Seat) → SeatOk o → Seated o
+pub seat-words : (o : Option Seat) → SeatOk o → Seated o
 unfolding seatWell
-seat-block none f = record { size = length-replicate {A = ℕ} seatSize 0; well = zeros-are seatSize; held = refl }
-seat-block (some s) f =
-    let x = cursor-block (s .first) (f .0) in
-    let y = cursor-block (s .second) (f .1) in
-    let first : take cursorSize (cursorBlock (s .first) ++ cursorBlock (s .second)) ≡ cursorBlock (s .first)
-    = take-at (cursorBlock (s .first)) (cursorBlock (s .second)) cursorSize (x .size) in
-    let second : take cursorSize (drop cursorSize (cursorBlock (s .first) ++ cursorBlock (s .second))) ≡ cursorBlock (s .second)
-    = ap (take cursorSize) (drop-at (cursorBlock (s .first)) (cursorBlock (s .second)) cursorSize (x .size))
-    ∙ take-all cursorSize (cursorBlock (s .second)) (omega (arith, y .size)) in
+seat-words none f = record { size = length-replicate {A = ℕ} seatSize 0; well = zeros-are seatSize; held = refl }
+seat-words (some s) f =
+    let x = cursor-words (s .first) (f .0) in
+    let y = cursor-words (s .second) (f .1) in
+    let first : take cursorSize (cursorWords (s .first) ++ cursorWords (s .second)) ≡ cursorWords (s .first)
+    = take-at (cursorWords (s .first)) (cursorWords (s .second)) cursorSize (x .size) in
+    let second : take cursorSize (drop cursorSize (cursorWords (s .first) ++ cursorWords (s .second))) ≡ cursorWords (s .second)
+    = ap (take cursorSize) (drop-at (cursorWords (s .first)) (cursorWords (s .second)) cursorSize (x .size))
+    ∙ take-all cursorSize (cursorWords (s .second)) (omega (arith, y .size)) in
     record {
-      size = omega (arith, length-append (cursorBlock (s .first)) (cursorBlock (s .second)), x .size, y .size);
+      size = omega (arith, length-append (cursorWords (s .first)) (cursorWords (s .second)), x .size, y .size);
       well = ap₂ (λ (a b : List ℕ). both (cursorWell a) (cursorWell b)) first second ∙ both-true _ _ (x .well) (y .well);
       held =
           ap₂ (λ (a b : Option Cursor). some (record { version = s .version; first = a; second = b }))

@@ -1,4 +1,4 @@
--- The block of a cursor that fits is well, and holds that cursor. Assumes nothing.
+-- The words of a cursor that fits are well, and hold that cursor. Assumes nothing.
 use mathlib.Core.Path.{_≡_, refl, ap, ap₂, _∙_}
 use mathlib.Core.Bool.{true}
 use mathlib.Core.List.{List, [], _∷_, _++_}
@@ -19,10 +19,10 @@ use Rattle.bindings.proofs.Sound.{fit-sound}
 use Rattle.bindings.proofs.Records.{words-columns, records-length}
 use Rattle.table.specs.Layout.{cursorSize, recordsAt, recordsSize, rowsAt, rowsSize}
 use Rattle.lists.specs.Parts.{part, zeros}
-use Rattle.table.specs.Seat.{Cursor, cursorBlock, cursorOf}
+use Rattle.table.specs.Seat.{Cursor, cursorWords, cursorOf}
 use Rattle.table.specs.Well.{allZero, rising, tidy, bindingsWell, cursorWell}
 use Rattle.table.specs.Fits.{CursorFits}
-use Rattle.table.proofs.Blocks.{zeros-are, rising-shown}
+use Rattle.table.proofs.Cursors.{zeros-are, rising-shown}
 use Rattle.lists.proofs.Parts.{take-zeros}
 
 pub words-length : (s : List Column) → length (wordsOf s) ≡ recordsSize
@@ -47,7 +47,7 @@ few c f =
     (λ (w : fit (c .width) (c .columns) ≡ true). fit-sound (c .width) (c .columns) w .count .1)
     (f .bound)
 
--- the bindings of a block: none, or fit ones
+-- the bindings in a cursor's words: none, or fit ones
 unbound-well : (position count : ℕ) (rest : List ℕ) → bindingsWell (1 ∷ position ∷ count ∷ 0 ∷ 0 ∷ (wordsOf [] ++ rest)) ≡ true
 unfolding wordsOf recordsOf
 unbound-well position count rest = ap (λ (r : List ℕ). allZero (0 ∷ r)) (take-at (wordsOf []) rest 45 (words-length [])) ∙ zeros-are 46
@@ -70,23 +70,23 @@ bound-well position count width s rest f t =
     most = fit-sound width s f .count .1
 
 module _ (c : Cursor) (f : CursorFits c) where
-  rows-part : drop rowsAt (cursorBlock (some c)) ≡ c .selection ++ zeros (rowsSize - length (c .selection))
+  rows-part : drop rowsAt (cursorWords (some c)) ≡ c .selection ++ zeros (rowsSize - length (c .selection))
   rows-part = drop-at (wordsOf (c .columns)) (c .selection ++ zeros (rowsSize - length (c .selection))) 45 (words-length (c .columns))
 
-  records-part : part (cursorBlock (some c)) recordsAt recordsSize ≡ wordsOf (c .columns)
+  records-part : part (cursorWords (some c)) recordsAt recordsSize ≡ wordsOf (c .columns)
   records-part = take-at (wordsOf (c .columns)) (c .selection ++ zeros (rowsSize - length (c .selection))) 45 (words-length (c .columns))
 
-  selection-part : take (length (c .selection)) (drop rowsAt (cursorBlock (some c))) ≡ c .selection
+  selection-part : take (length (c .selection)) (drop rowsAt (cursorWords (some c))) ≡ c .selection
   selection-part = ap (take (length (c .selection))) rows-part ∙ take-at (c .selection) _ (length (c .selection)) refl
 
-  pub cursor-held : cursorOf (cursorBlock (some c)) ≡ some c
+  pub cursor-held : cursorOf (cursorWords (some c)) ≡ some c
   cursor-held =
       ap₂ (λ (s : List ℕ) (k : List Column). some (record { position = c .position; selection = s; width = c .width; columns = k }))
       selection-part
       (ap (columnsOf (length (c .columns))) records-part ∙ words-columns (c .columns) (few c f))
 
-  pub block-length : length (cursorBlock (some c)) ≡ cursorSize
-  block-length =
+  pub cursor-length : length (cursorWords (some c)) ≡ cursorSize
+  cursor-length =
       omega (
         arith,
         length-append (wordsOf (c .columns)) (c .selection ++ zeros (rowsSize - length (c .selection))),
@@ -96,7 +96,7 @@ module _ (c : Cursor) (f : CursorFits c) where
         f .rows,
       )
 
-  bindings-shown : bindingsWell (cursorBlock (some c)) ≡ true
+  bindings-shown : bindingsWell (cursorWords (some c)) ≡ true
   bindings-shown =
       ⊎-elim
       (λ (w : (c .columns ≡ []) × (c .width ≡ 0)).
@@ -111,13 +111,13 @@ module _ (c : Cursor) (f : CursorFits c) where
       rest : List ℕ
       rest = c .selection ++ zeros (rowsSize - length (c .selection))
 
-  pub cursor-shown : cursorWell (cursorBlock (some c)) ≡ true
+  pub cursor-shown : cursorWell (cursorWords (some c)) ≡ true
   unfolding cursorWell
   cursor-shown =
       both-true (leb (c .position) (length (c .selection))) _ (le-leb (c .position) (length (c .selection)) (f .position))
       (both-true (leb (length (c .selection)) rowsSize) _ (le-leb (length (c .selection)) rowsSize (f .rows))
-      (both-true (bindingsWell (cursorBlock (some c))) _ bindings-shown
-      (both-true (rising (take (length (c .selection)) (drop rowsAt (cursorBlock (some c))))) _
+      (both-true (bindingsWell (cursorWords (some c))) _ bindings-shown
+      (both-true (rising (take (length (c .selection)) (drop rowsAt (cursorWords (some c))))) _
       (ap rising selection-part ∙ rising-shown (c .selection) (f .rising))
       (ap allZero
       (ap (drop (length (c .selection))) rows-part ∙ drop-at (c .selection) (zeros (rowsSize - length (c .selection))) (length (c .selection)) refl)

@@ -5,7 +5,7 @@ use lib.Dec.{eqb}
 use Rattle.lists.specs.Below.{pick}
 use Rattle.lists.specs.Parts.{part}
 
--- "8 seats (0 to 7)": a block for each, one after the other
+-- "8 seats (0 to 7)": so many words for each, one after the other
 abbrev pub seats : ℕ
 seats = 8
 
@@ -18,7 +18,7 @@ tableSize = 17200
 abbrev pub seatAt : ℕ → ℕ
 seatAt seat = seatSize * seat
 
--- in a seat's block: connected, client version, and the blocks of its "2 cursors .., handles 1 and 2"
+-- in a seat's words: connected, client version, and the words of its "2 cursors .., handles 1 and 2"
 abbrev pub connectedAt : ℕ
 connectedAt = 0
 
@@ -38,7 +38,7 @@ secondAt = 1076
 abbrev pub cursorPlace : ℕ → ℕ
 cursorPlace handle = pick (eqb handle 1) firstAt secondAt
 
--- in a cursor's block: open, position, count of selected rows, count of bound columns, row width, the records of the columns,
+-- in a cursor's words: open, position, count of selected rows, count of bound columns, row width, the records of the columns,
 -- the row numbers
 abbrev pub openAt : ℕ
 openAt = 0
@@ -67,6 +67,6 @@ rowsAt = 50
 abbrev pub rowsSize : ℕ
 rowsSize = 1024
 
--- a seat's block in the table
-abbrev pub blockOf : List ℕ → ℕ → List ℕ
-blockOf t seat = part t (seatAt seat) seatSize
+-- a seat's words in the table
+abbrev pub seatPart : List ℕ → ℕ → List ℕ
+seatPart t seat = part t (seatAt seat) seatSize

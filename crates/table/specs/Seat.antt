@@ -25,16 +25,16 @@ pub record Seat : Type 0 where
   pub second : Option Cursor
 
 -- the words of a cursor; "a word not in use (closed cursor, .. past a list's end)" is zero
-abbrev pub cursorBlock : Option Cursor → List ℕ
-cursorBlock none = zeros cursorSize
-cursorBlock (some c) =
+abbrev pub cursorWords : Option Cursor → List ℕ
+cursorWords none = zeros cursorSize
+cursorWords (some c) =
     1 ∷ c .position ∷ length (c .selection) ∷ length (c .columns) ∷ c .width
     ∷ (wordsOf (c .columns) ++ (c .selection ++ zeros (rowsSize - length (c .selection))))
 
 -- the words of a seat; those of an unconnected one are zero
-abbrev pub seatBlock : Option Seat → List ℕ
-seatBlock none = zeros seatSize
-seatBlock (some s) = 1 ∷ s .version ∷ (cursorBlock (s .first) ++ cursorBlock (s .second))
+abbrev pub seatWords : Option Seat → List ℕ
+seatWords none = zeros seatSize
+seatWords (some s) = 1 ∷ s .version ∷ (cursorWords (s .first) ++ cursorWords (s .second))
 
 -- the cursor and the seat that words hold
 abbrev pub cursorHeld : List ℕ → Cursor

@@ -10,7 +10,7 @@ use Rattle.bindings.specs.Column.{columnsOf}
 use Rattle.lists.specs.Every.{every}
 use Rattle.bindings.specs.Fit.{fit}
 use Rattle.bindings.specs.declared.Column.{Column}
-use Rattle.table.specs.Layout.{seats, tableSize, cursorSize, connectedAt, firstAt, secondAt, openAt, positionAt, countAt, columnsAt, widthAt, recordsAt, recordsSize, rowsAt, rowsSize, blockOf}
+use Rattle.table.specs.Layout.{seats, tableSize, cursorSize, connectedAt, firstAt, secondAt, openAt, positionAt, countAt, columnsAt, widthAt, recordsAt, recordsSize, rowsAt, rowsSize, seatPart}
 use Rattle.lists.specs.Parts.{part}
 use Rattle.table.specs.Seat.{Cursor, Seat, seatOf}
 
@@ -53,7 +53,7 @@ openWell b =
     (both (leb (getD b countAt 0) rowsSize)
     (both (bindingsWell b) (selectionWell (getD b countAt 0) (drop rowsAt b))))
 
--- a flag that is 0 leaves the block not in use; any other number than 0 and 1 is out of range
+-- a flag that is 0 leaves the words not in use; any other number than 0 and 1 is out of range
 abbrev pub byFlag : ℕ → Bool → Bool → Bool
 byFlag flag unset set = pick (eqb flag 0) unset (both (eqb flag 1) set)
 
@@ -67,7 +67,7 @@ seatWell b =
 
 -- "if its length .. is out of range", and all seats
 unfoldable pub tableWell : List ℕ → Bool
-tableWell t = both (eqb (length t) tableSize) (everyBelow seats (λ seat. seatWell (blockOf t seat)))
+tableWell t = both (eqb (length t) tableSize) (everyBelow seats (λ seat. seatWell (seatPart t seat)))
 
 -- refusal 3: "an open cursor's row number not below its row count", of every open cursor of every seat
 abbrev pub cursorBelow : ℕ → Option Cursor → Bool
@@ -79,4 +79,4 @@ seatBelow rows none = true
 seatBelow rows (some s) = both (cursorBelow rows (s .first)) (cursorBelow rows (s .second))
 
 unfoldable pub tableBelow : ℕ → List ℕ → Bool
-tableBelow rows t = everyBelow seats (λ seat. seatBelow rows (seatOf (blockOf t seat)))
+tableBelow rows t = everyBelow seats (λ seat. seatBelow rows (seatOf (seatPart t seat)))

@@ -1,4 +1,4 @@
-// The session table: the judgement of a cursor's block.
+// The session table: the judgement of a cursor's words.
 ghost use mathlib.Core.Path.{_≡_};
 ghost use Prim.Native.Nat.{_≤_};
 ghost use lib.ListN.{length};
@@ -35,7 +35,7 @@ fn selection_well(rows: &[u32], count: usize) -> bool
     table_bindings::all_zero(&rows[count..])
 }
 
-// The block of an open cursor.
+// The words of an open cursor.
 fn open_well(cursor: &[u32]) -> bool
     requires { ⌜ length (now cursor) ≡ cursorSize ⌝ }
     ensures { λ r. ⌜ r ≡ openWell (now (cursor .entry)) ⌝ }
@@ -53,7 +53,7 @@ fn open_well(cursor: &[u32]) -> bool
     selection_well(&cursor[table::ROWS..], count as usize)
 }
 
-// The block of a cursor.
+// The words of a cursor.
 pub fn cursor_well(cursor: &[u32]) -> bool
     requires { ⌜ length (now cursor) ≡ cursorSize ⌝ }
     ensures { λ r. ⌜ r ≡ cursorWell (now (cursor .entry)) ⌝ }

@@ -6,7 +6,7 @@ ghost use Rattle.table.specs.Layout.{seatSize, cursorSize};
 ghost use Rattle.table.specs.Seat.{cursorOf, seatOf};
 ghost use Rattle.table.specs.Well.{cursorWell, seatWell, tableWell, cursorBelow, seatBelow, tableBelow};
 
-// The block of a seat.
+// The words of a seat.
 fn seat_well(seat: &[u32]) -> bool
     requires { ⌜ length (now seat) ≡ seatSize ⌝ }
     ensures { λ r. ⌜ r ≡ seatWell (now (seat .entry)) ⌝ }

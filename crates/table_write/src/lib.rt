@@ -4,7 +4,7 @@ ghost use mathlib.Core.Option.{none, some};
 ghost use lib.ListN.{length, set};
 ghost use Rattle.table.specs.Layout.{cursorSize, openAt, positionAt, countAt, columnsAt, widthAt, recordsAt, recordsSize};
 ghost use Rattle.lists.specs.Parts.{put, zeros};
-ghost use Rattle.table.specs.Seat.{seatBlock, fresh};
+ghost use Rattle.table.specs.Seat.{seatWords, fresh};
 
 // Clears words.
 pub fn clear(words: &mut [u32])
@@ -19,14 +19,14 @@ pub fn clear(words: &mut [u32])
 
 // Connects a seat.
 pub fn connect(seat: &mut [u32], version: u32)
-    requires { ⌜ now seat ≡ seatBlock none ⌝ }
-    ensures { λ _. ⌜ now (seat .exit) ≡ seatBlock (some (fresh version)) ⌝ }
+    requires { ⌜ now seat ≡ seatWords none ⌝ }
+    ensures { λ _. ⌜ now (seat .exit) ≡ seatWords (some (fresh version)) ⌝ }
 {
     seat[table::CONNECTED] = 1;
     seat[table::VERSION] = version;
 }
 
-// Opens a cursor whose row numbers stand in its block.
+// Opens a cursor whose row numbers stand in its words.
 pub fn open(cursor: &mut [u32], count: u32)
     requires { ⌜ length (now cursor) ≡ cursorSize ⌝ }
     ensures { λ _. ⌜ now (cursor .exit) ≡ set (set (now (cursor .entry)) openAt 1) countAt count ⌝ }

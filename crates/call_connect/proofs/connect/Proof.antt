@@ -1,4 +1,4 @@
--- `call_connect::connect` meets its contract: the judgement and the seat's first word pick the way, and the seat's block is lent to be written. Assumes nothing.
+-- `call_connect::connect` meets its contract: the judgement and the seat's first word pick the way, and the seat's words are lent to be written. Assumes nothing.
 use borrow.Author.Needs.{needs}
 use Rattle.call_connect.proofs.connect.Statement.{statement}
 use Rattle.call_connect.proofs.connect.Tie as tie
@@ -11,7 +11,7 @@ use Rattle.lists.proofs.Parts.{part-is}
 use Rattle.table.proofs.Tables.{table-length}
 use Rattle.call.specs.Step.{sourcesOf, Keeps, connectStep}
 use Rattle.call.proofs.Causes.{passes}
-use Rattle.call.proofs.Seating.{block-none, is-connected, not-connected, seated-is}
+use Rattle.call.proofs.Seating.{part-none, is-connected, not-connected, seated-is}
 use Rattle.call.proofs.Connecting.{connect-judged, connect-taken, connect-done}
 use mathlib.Core.Option.{some}
 use Rattle.table.specs.Seat.{fresh}
@@ -78,7 +78,7 @@ connect-requires c κs =
     let e = sym (c .before .before .before .before .judge .ensures .refused) ∙ c .before .before .before .if1 .left in
     let p = passes (sourcesOf (a .catalogue .now)) (a .table .now) (a .seat .0) e in
     part-is (a .table .now) (seatSize * a .seat .0) seatSize
-    ∙ block-none (a .table .now) (p .table-in) (a .seat .0) (p .seat-in) (c .before .if2 .left)
+    ∙ part-none (a .table .now) (p .table-in) (a .seat .0) (p .seat-in) (c .before .if2 .left)
 
 same-length-3 : tie.Need-same-length-3
 same-length-3 c = search needs

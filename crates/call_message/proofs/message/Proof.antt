@@ -1,4 +1,4 @@
--- `call_message::message` meets its contract: the judgement and the sizes pick the way, and the seat's block is lent to be answered. Assumes nothing.
+-- `call_message::message` meets its contract: the judgement and the sizes pick the way, and the seat's words are lent to be answered. Assumes nothing.
 use borrow.Author.Needs.{needs}
 use Rattle.call_message.proofs.message.Statement.{statement}
 use Rattle.call_message.proofs.message.Tie as tie
@@ -8,7 +8,7 @@ use Rattle.call.proofs.Opening.{places-noted}
 use Rattle.call.proofs.Messaging.{message-judged, room-refused, short-refused, long-refused, message-answered}
 use Rattle.call.proofs.Causes.{passes}
 use Rattle.call.specs.Step.{sourcesOf}
-use Rattle.table.proofs.Tables.{table-length, table-seat, block-size}
+use Rattle.table.proofs.Tables.{table-length, table-seat, part-size}
 use Rattle.lists.proofs.Parts.{part-is}
 use Rattle.table.specs.Well.{seatWell}
 use Rattle.table.specs.Layout.{seatSize}
@@ -92,7 +92,7 @@ answer-requires c κs =
     let s = a .catalogue .now in
     let p = passes (sourcesOf s) t (a .seat .0) e in (
       record {
-        size = ap length (part-is t (seatSize * a .seat .0) seatSize) ∙ block-size t (table-length t (p .table-in)) (a .seat .0) (p .seat-in);
+        size = ap length (part-is t (seatSize * a .seat .0) seatSize) ∙ part-size t (table-length t (p .table-in)) (a .seat .0) (p .seat-in);
         well = ap seatWell (part-is t (seatSize * a .seat .0) seatSize) ∙ table-seat t (p .table-in) (a .seat .0) (p .seat-in);
         least = c .before .before .before .before .if3 .left;
         most = c .before .before .before .if4 .left;

@@ -1,4 +1,4 @@
--- `call_open::open` meets its contract: the judgement and the seat pick the way, and the seat's block is lent to be opened. Assumes nothing.
+-- `call_open::open` meets its contract: the judgement and the seat pick the way, and the seat's words are lent to be opened. Assumes nothing.
 use borrow.Author.Needs.{needs}
 use Rattle.call_open.proofs.open.Statement.{statement}
 use Rattle.call_open.proofs.open.Tie as tie
@@ -9,13 +9,13 @@ use lib.ListN.{length, length-replicate}
 use Rattle.table.specs.Layout.{seatSize, cursorSize, cursorPlace}
 use Rattle.lists.specs.Parts.{part, put}
 use Rattle.lists.proofs.Parts.{part-is}
-use Rattle.table.proofs.Tables.{table-length, block-size}
+use Rattle.table.proofs.Tables.{table-length, part-size}
 use Rattle.call.specs.Step.{sourcesOf, seatHeld}
 use Rattle.call.proofs.Causes.{passes}
 use Rattle.call.proofs.Opening.{open-judged, open-refused, open-done, places-noted, open-seat, part-closed, part-opened}
 use mathlib.Core.Option.{some}
 use mathlib.Core.List.{List}
-use Rattle.table.specs.Seat.{opened, cursorBlock}
+use Rattle.table.specs.Seat.{opened, cursorWords}
 use Rattle.tree.specs.Select.{selected}
 use Rattle.query.specs.Open.{openedOn}
 use Rattle.query.specs.Answer.{handleFor}
@@ -102,7 +102,7 @@ open-requires c κs =
     let f = sym (j .refused) ∙ c .before .before .if2 .left in
     let s = open-seat (seatHeld t (a .seat .0)) (a .tree .now) f in
     let h = j .given (c .before .before .if2 .left) ∙ ap handleFor (s .1) in (
-      ap length (part-is t (seatSize * a .seat .0) seatSize) ∙ block-size t (table-length t (p .table-in)) (a .seat .0) (p .seat-in),
+      ap length (part-is t (seatSize * a .seat .0) seatSize) ∙ part-size t (table-length t (p .table-in)) (a .seat .0) (p .seat-in),
       ap (λ (b : List ℕ). part b (cursorPlace (c .before .before .before .judge2 .result .handle)) cursorSize) (part-is t (seatSize * a .seat .0) seatSize)
           ∙ part-closed t (p .table-in) (a .seat .0) (p .seat-in) (s .0) (s .1) _ h (λ z. s .2 (sym h ∙ z)),
       open-tree (seatHeld t (a .seat .0)) (a .tree .now) f,
@@ -125,7 +125,7 @@ returns-3 c =
     open-done (sourcesOf (a .catalogue .now)) (a .table .now) (a .seat .0) (a .tree .now) e (s .0) _ _ (s .1) f h
     (seated-is t (a .seat .0) _ (some (openedOn (s .0) (a .tree .now) (sourcesOf (a .catalogue .now) .rows)))
     (c .before .before .«open» .ensures
-    ∙ ap (λ (b : List ℕ). put b (cursorPlace (c .before .before .before .before .before .before .judge2 .result .handle)) cursorSize (cursorBlock (some (opened (selected (a .tree .now) (a .catalogue .now))))))
+    ∙ ap (λ (b : List ℕ). put b (cursorPlace (c .before .before .before .before .before .before .judge2 .result .handle)) cursorSize (cursorWords (some (opened (selected (a .tree .now) (a .catalogue .now))))))
     (part-is t (seatSize * a .seat .0) seatSize)
     ∙ part-opened t (p .table-in) (a .seat .0) (p .seat-in) (s .0) (s .1) _ h (some (opened (selected (a .tree .now) (a .catalogue .now))))))
 

@@ -2,7 +2,7 @@
 use borrow.Author.Needs.{needs}
 use Rattle.message_answer.proofs.answer.Statement.{statement}
 use Rattle.message_answer.proofs.answer.Tie as tie
-use Rattle.message.proofs.Answering.{block-is, refused-answers, gate-refused}
+use Rattle.message.proofs.Answering.{words-is, refused-answers, gate-refused}
 use Rattle.message.proofs.Gating.{gate-served, gate-connected, gate-small}
 use Rattle.message.specs.Message.{kindOf}
 use Rattle.catalogue.specs.Plain.{rowsOf, catalogue}
@@ -37,7 +37,7 @@ returns c =
     let a = c .before .before .before .before .before .before .before .before .before .before .before .before .before .before in
     let b = a .args .seat .now in
     let m = a .args .message .now in
-    refused-answers (rowsOf (catalogue (a .args .catalogue .now))) b m (a .args .reply .now) _ _ _ _ (block-is b m (a .args .reply .now) (a .pre .0)) (c .before .before .before .before .before .before .before .before .word .ensures)
+    refused-answers (rowsOf (catalogue (a .args .catalogue .now))) b m (a .args .reply .now) _ _ _ _ (words-is b m (a .args .reply .now) (a .pre .0)) (c .before .before .before .before .before .before .before .before .word .ensures)
     (gate-refused (rowsOf (catalogue (a .args .catalogue .now))) b m _ (sym (c .before .before .before .before .before .gate .ensures)) (c .before .before .before .before .if1 .taken))
     (c .before .before .refuse .ensures .0)
     (c .before .before .refuse .ensures .1)

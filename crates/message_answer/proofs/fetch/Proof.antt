@@ -3,7 +3,7 @@ use borrow.Author.Needs.{needs}
 use Rattle.message_answer.proofs.fetch.Statement.{statement}
 use Rattle.message_answer.proofs.fetch.Tie as tie
 use Rattle.message.proofs.Rows.{not-asked, rows-closed, found-inside, ready-at, refusal-small, refused-at, answered-at}
-use Rattle.message.proofs.Answering.{block-is, refused-answers, body-refused}
+use Rattle.message.proofs.Answering.{words-is, refused-answers, body-refused}
 use Rattle.table.specs.Open.{isOpen}
 use Rattle.catalogue.specs.Plain.{rowsOf, catalogue}
 use Rattle.fetch.proofs.Ranges.{request-handle, asked-is, malformed-is}
@@ -37,7 +37,7 @@ returns c =
     let s = a .args .catalogue .now in
     let reply = a .args .reply .now in
     let msg = a .args .msg in
-    refused-answers (rowsOf (catalogue s)) b m reply _ msg 9 _ (block-is b m reply (a .pre .0 .given)) (a .pre .0 .msg-is)
+    refused-answers (rowsOf (catalogue s)) b m reply _ msg 9 _ (words-is b m reply (a .pre .0 .given)) (a .pre .0 .msg-is)
     (body-refused b m reply msg 2 (a .pre .0) (rowsOf (catalogue s)) 9
     (not-asked b m reply msg (a .pre .0) s (a .args .places .now) (a .pre .1) (malformed-is (request m) (sym (c .before .before .before .before .before .before .read .ensures) ∙ c .before .before .before .before .enum-told .given .1)))
     (λ z. omega arith))
@@ -65,7 +65,7 @@ returns-2 c =
     let reply = a .args .reply .now in
     let msg = a .args .msg in
     let e = asked-is (request m) (sym (c .before .before .before .before .before .before .before .before .before .before .read .ensures) ∙ c .before .before .before .before .before .before .before .before .q .given .1) in
-    refused-answers (rowsOf (catalogue s)) b m reply _ msg 10 _ (block-is b m reply (a .pre .0 .given)) (a .pre .0 .msg-is)
+    refused-answers (rowsOf (catalogue s)) b m reply _ msg 10 _ (words-is b m reply (a .pre .0 .given)) (a .pre .0 .msg-is)
     (body-refused b m reply msg 2 (a .pre .0) (rowsOf (catalogue s)) 10
     (rows-closed b m reply msg (a .pre .0) s (a .args .places .now) (a .pre .1) _ e
     (ap (λ (h : ℕ). isOpen (cursorIn (seatIn b) h)) (sym (request-handle m _ e)) ∙ sym (c .before .before .before .before .before .is-open .ensures) ∙ not-true _ (c .before .before .before .before .if1 .taken)))

@@ -1,4 +1,4 @@
--- `message_answer::rebind` meets its contract: the cursor's part of the block is lent to be bound. Assumes nothing.
+-- `message_answer::rebind` meets its contract: the cursor's part of the seat's words is lent to be bound. Assumes nothing.
 use borrow.Author.Needs.{needs}
 use Rattle.message_answer.proofs.rebind.Statement.{statement}
 use Rattle.message_answer.proofs.rebind.Tie as tie

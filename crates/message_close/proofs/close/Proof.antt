@@ -1,4 +1,4 @@
--- `message_close::close` meets its contract: the cursor's part of the block is cleared. Assumes nothing.
+-- `message_close::close` meets its contract: the cursor's part of the seat's words is cleared. Assumes nothing.
 use borrow.Author.Needs.{needs}
 use Rattle.message_close.proofs.close.Statement.{statement}
 use Rattle.message_close.proofs.close.Tie as tie

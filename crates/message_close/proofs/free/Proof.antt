@@ -8,9 +8,9 @@ use native.Mathlib.Omega.{arith}
 use borrow.Author.Tests.{not-true, not-false}
 use Rattle.table.specs.Layout.{cursorSize, cursorPlace}
 use Rattle.lists.specs.Parts.{put}
-use Rattle.table.specs.Seat.{cursorBlock, seatIn, cursorIn}
+use Rattle.table.specs.Seat.{cursorWords, seatIn, cursorIn}
 use Rattle.table.specs.Open.{isOpen}
-use Rattle.message.proofs.Answering.{block-is, refused-answers, body-refused}
+use Rattle.message.proofs.Answering.{words-is, refused-answers, body-refused}
 use Rattle.message.proofs.Bodies.{not-four, not-open, freed-answers}
 use mathlib.Core.Option.{none}
 use mathlib.Core.List.{List}
@@ -28,7 +28,7 @@ returns c = λ rows.
     let a = c .before .before .before .before .before .before .before .before in
     let b = a .args .seat .now in
     let m = a .args .message .now in
-    refused-answers rows b m (a .args .reply .now) _ (a .args .msg) 9 _ (block-is b m (a .args .reply .now) (a .pre .given)) (a .pre .msg-is)
+    refused-answers rows b m (a .args .reply .now) _ (a .args .msg) 9 _ (words-is b m (a .args .reply .now) (a .pre .given)) (a .pre .msg-is)
     (body-refused b m (a .args .reply .now) (a .args .msg) 1 (a .pre) rows 9 (not-four b m (a .args .reply .now) (a .args .msg) (a .pre) rows (c .before .before .before .before .if1 .taken)) (λ z. omega arith))
     (c .before .before .refuse .ensures .0)
     (c .before .before .refuse .ensures .1)
@@ -53,7 +53,7 @@ returns-2 c = λ rows.
     let a = c .before .before .before .before .before .before .before .before .before .before .before .before in
     let b = a .args .seat .now in
     let m = a .args .message .now in
-    refused-answers rows b m (a .args .reply .now) _ (a .args .msg) 10 _ (block-is b m (a .args .reply .now) (a .pre .given)) (a .pre .msg-is)
+    refused-answers rows b m (a .args .reply .now) _ (a .args .msg) 10 _ (words-is b m (a .args .reply .now) (a .pre .given)) (a .pre .msg-is)
     (body-refused b m (a .args .reply .now) (a .args .msg) 1 (a .pre) rows 10 (not-open b m (a .args .reply .now) (a .args .msg) (a .pre) rows (c .before .before .before .before .before .before .before .before .if1 .left)
     (ap (λ (h : ℕ). isOpen (cursorIn (seatIn b) h)) (sym (c .before .before .before .before .before .before .before .word .ensures)) ∙ sym (c .before .before .before .before .before .is-open .ensures) ∙ not-true _ (c .before .before .before .before .if2 .taken))) (λ z. omega arith))
     (c .before .before .refuse2 .ensures .0)
@@ -89,7 +89,7 @@ returns-3 c = λ rows.
     _
     _
     (c .before .before .before .before .before .before .before .before .open-count .result)
-    (c .before .before .before .before .before .before .before .before .before .before .before .before .close .ensures ∙ ap (λ (h : ℕ). put b (cursorPlace h) cursorSize (cursorBlock none)) (c .before .before .before .before .before .before .before .before .before .before .before .before .before .before .before .before .before .word .ensures))
+    (c .before .before .before .before .before .before .before .before .before .before .before .before .close .ensures ∙ ap (λ (h : ℕ). put b (cursorPlace h) cursorSize (cursorWords none)) (c .before .before .before .before .before .before .before .before .before .before .before .before .before .before .before .before .before .word .ensures))
     (c .before .before .before .before .before .before .before .before .open-count .ensures)
     (c .before .before .lay-word .ensures ∙ ap (λ (x : List ℕ). lay x 16 (le 4 (c .before .before .before .before .before .before .before .before .open-count .result))) (c .before .before .before .before .before .before .lay-header .ensures))
 

@@ -1,4 +1,4 @@
--- `query_open::fill` meets its contract: the selection is written into its part of a closed cursor's block, and two words are set. Assumes nothing.
+-- `query_open::fill` meets its contract: the selection is written into its part of a closed cursor's words, and two words are set. Assumes nothing.
 use borrow.Author.Needs.{needs}
 use Rattle.query_open.proofs.fill.Statement.{statement}
 use Rattle.query_open.proofs.fill.Tie as tie

@@ -1,4 +1,4 @@
--- `query_open::open` meets its contract: the cursor's part of the seat's block is lent to be filled. Assumes nothing.
+-- `query_open::open` meets its contract: the cursor's part of the seat's words is lent to be filled. Assumes nothing.
 use borrow.Author.Needs.{needs}
 use Rattle.query_open.proofs.open.Statement.{statement}
 use Rattle.query_open.proofs.open.Tie as tie

@@ -10,14 +10,14 @@ use native.Mathlib.Omega.{arith}
 use borrow.Author.Count.{below-none, below-more}
 use borrow.Author.Tests.{not-true, not-false}
 use Rattle.lists.proofs.Below.{every-shown, every-broken}
-use Rattle.table.specs.Layout.{seatSize, blockOf}
+use Rattle.table.specs.Layout.{seatSize, seatPart}
 use Rattle.table.specs.Seat.{seatOf}
 use Rattle.table.specs.Well.{seatWell, seatBelow, tableBelow}
 use Rattle.lists.proofs.Parts.{part-is}
-use Rattle.table.proofs.Tables.{table-length, table-seat, block-size}
+use Rattle.table.proofs.Tables.{table-length, table-seat, part-size}
 
 abbrev Inv-loop : tie.InvT-loop
-Inv-loop table rows seat₀ seat = (seat ≤ 8) × ((k : ℕ) → k < seat → seatBelow rows (seatOf (blockOf table k)) ≡ true)
+Inv-loop table rows seat₀ seat = (seat ≤ 8) × ((k : ℕ) → k < seat → seatBelow rows (seatOf (seatPart table k)) ≡ true)
 
 abbrev μ-loop : tie.MeasureT-loop
 μ-loop table rows seat₀ seat = 8 - seat
@@ -49,7 +49,7 @@ seat-below-requires c κs =
     let t = a .args .table .now in
     let seat = c .before .before .loop .seat in
     let h : seat < 8 = search needs in (
-      ap length (part-is t (seatSize * seat) seatSize) ∙ block-size t (table-length t (a .pre)) seat h,
+      ap length (part-is t (seatSize * seat) seatSize) ∙ part-size t (table-length t (a .pre)) seat h,
       ap seatWell (part-is t (seatSize * seat) seatSize) ∙ table-seat t (a .pre) seat h,
     )
 

@@ -10,12 +10,12 @@ use lib.ListN.{length}
 use borrow.Author.Count.{below-none, below-more}
 use borrow.Author.Tests.{eq-eqb, ne-eqb, not-true, not-false}
 use Rattle.lists.proofs.Below.{both-stop, both-go, every-shown, every-broken}
-use Rattle.table.specs.Layout.{seatSize, tableSize, blockOf}
+use Rattle.table.specs.Layout.{seatSize, tableSize, seatPart}
 use Rattle.table.specs.Well.{seatWell, tableWell}
 use Rattle.lists.proofs.Parts.{part-is}
 
 abbrev Inv-loop : tie.InvT-loop
-Inv-loop table seat₀ seat = (seat ≤ 8) × ((k : ℕ) → k < seat → seatWell (blockOf table k) ≡ true)
+Inv-loop table seat₀ seat = (seat ≤ 8) × ((k : ℕ) → k < seat → seatWell (seatPart table k) ≡ true)
 
 abbrev μ-loop : tie.MeasureT-loop
 μ-loop table seat₀ seat = 8 - seat

@@ -1,4 +1,4 @@
--- A block that is well is the block of the cursor that it holds, which fits; and the block of a cursor that fits is well and
+-- Words that are well are the words of the cursor that they hold, which fits; and the words of a cursor that fits are well and
 -- holds it. Assumes nothing.
 use mathlib.Core.Path.{_≡_, refl, sym, ap, ap₂, _∙_}
 use mathlib.Core.Bool.{true}
@@ -21,7 +21,7 @@ use Rattle.bindings.specs.Fit.{fit}
 use Rattle.bindings.proofs.Columns.{from-length}
 use Rattle.table.specs.Layout.{cursorSize, openAt, positionAt, countAt, columnsAt, widthAt, recordsAt, recordsSize, rowsAt, rowsSize}
 use Rattle.lists.specs.Parts.{part, zeros}
-use Rattle.table.specs.Seat.{cursorBlock, cursorHeld, cursorOf}
+use Rattle.table.specs.Seat.{cursorWords, cursorHeld, cursorOf}
 use Rattle.table.specs.Well.{allZero, rising, tidy, boundWell, bindingsWell, selectionWell, openWell, cursorWell}
 use Rattle.table.specs.Fits.{CursorFits, CursorOk}
 use Rattle.lists.specs.Rising.{Rises}
@@ -102,7 +102,7 @@ words-back n words l h z =
     rest-zero : drop (9 * n) words ≡ zeros (45 - 9 * n)
     rest-zero = zero-is (drop (9 * n) words) z ∙ ap zeros (length-drop (9 * n) words ∙ ap (λ (j : ℕ). j - 9 * n) l)
 
--- an open block, taken apart
+-- the words of an open cursor, taken apart
 apart : (b : List ℕ) → length b ≡ cursorSize
     → b ≡ getD b 0 0 ∷ getD b 1 0 ∷ getD b 2 0 ∷ getD b 3 0 ∷ getD b 4 0 ∷ (part b recordsAt recordsSize ++ drop rowsAt b)
 apart b l =
@@ -166,7 +166,7 @@ bindings-back b l e =
     (λ q. bound-by b l (rw q at e))
 
 open-back : (b : List ℕ) → length b ≡ cursorSize → getD b openAt 0 ≡ 1 → openWell b ≡ true
-    → (b ≡ cursorBlock (some (cursorHeld b))) × CursorFits (cursorHeld b)
+    → (b ≡ cursorWords (some (cursorHeld b))) × CursorFits (cursorHeld b)
 open-back b l o e =
     let count = getD b countAt 0 in
     let position : leb (getD b positionAt 0) count ≡ true = both-left _ _ e in
@@ -191,8 +191,8 @@ open-back b l o e =
       },
     )
 
--- a block that is well is the block of what it holds, which fits
-pub cursor-back : (b : List ℕ) → length b ≡ cursorSize → cursorWell b ≡ true → (b ≡ cursorBlock (cursorOf b)) × CursorOk (cursorOf b)
+-- words that are well are the words of what they hold, which fits
+pub cursor-back : (b : List ℕ) → length b ≡ cursorSize → cursorWell b ≡ true → (b ≡ cursorWords (cursorOf b)) × CursorOk (cursorOf b)
 unfolding cursorWell
 cursor-back b l e =
     by-test (eqb (getD b openAt 0) 0)
