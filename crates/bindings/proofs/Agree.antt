@@ -24,10 +24,10 @@ use Rattle.bindings.specs.declared.ColumnRead.{ColumnRead}
 use Rattle.wire.specs.FieldPlaces.{ofPlace, ofNumber, withRead, paddedOn, numberOn, flagOn, propertyOn}
 use Rattle.wire.specs.Padding.{padding, zeroAt}
 use Rattle.wire.specs.PropertySpec.{setSize, setFirst, setOurs, numbered, kindAt, prSpecAt, specSize}
-use Rattle.bindings.specs.Wire.{ofSpot, ofValue, ofColumn, spotOn, valueOn, typeWidth, columnOn}
-use Rattle.bindings.specs.Bindings.{columnsAt, before, columnsOn, bindingsOn}
+use Rattle.bindings.specs.ColumnPlaces.{ofSpot, ofValue, ofColumn, spotOn, valueOn, columnOn}
+use Rattle.bindings.specs.Plain.{typeWidth, Parsed, bytes, numeral, zeroBytes, padded, flag, spot, value, property, column, columns, bindings, before}
+use Rattle.bindings.specs.BindingsPlaces.{columnsAt, columnsOn, bindingsOn}
 use Rattle.lists.specs.Options.{andThen}
-use Rattle.bindings.specs.Plain.{Parsed, bytes, numeral, zeroBytes, padded, flag, spot, value, property, column, columns, bindings}
 
 -- what the parser gives is what the reader gives, with the bytes from the place after it, which lies in the message
 abbrev Agree : {A : Type 0} → List ℕ → Parsed A → Option (A × ℕ) → Type 0

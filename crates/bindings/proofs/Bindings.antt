@@ -13,8 +13,9 @@ use Rattle.lists.proofs.Below.{by-test}
 use Rattle.bindings.specs.Column.{kept, keptAll}
 use Rattle.bindings.specs.declared.Column.{Column}
 use Rattle.wire.specs.FieldPlaces.{ofPlace, withRead, paddedOn}
-use Rattle.bindings.specs.Wire.{ofColumn, columnOn}
-use Rattle.bindings.specs.Bindings.{before, columnsOn, keeping, keptOr}
+use Rattle.bindings.specs.ColumnPlaces.{ofColumn, columnOn}
+use Rattle.bindings.specs.BindingsPlaces.{columnsOn, keeping, keptOr}
+use Rattle.bindings.specs.Plain.{before}
 use Rattle.wire.specs.declared.PlaceRead.{PlaceRead}
 use Rattle.bindings.specs.declared.ColumnRead.{ColumnRead}
 

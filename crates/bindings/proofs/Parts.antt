@@ -9,8 +9,8 @@ use lib.ListN.{length}
 use Rattle.lists.specs.Below.{both}
 use Rattle.lists.proofs.Below.{both-left, both-right}
 use Rattle.lists.specs.Every.{every, pairwise}
-use Rattle.bindings.specs.Fit.{spansOf, apart}
-use Rattle.bindings.specs.Spans.{spanOf, partIf}
+use Rattle.bindings.specs.Fit.{spansOf, apart, spanOf}
+use Rattle.bindings.specs.SpanPlaces.{partIf}
 use Rattle.bindings.specs.Sound.{column}
 use Rattle.bindings.specs.declared.Column.{Column}
 use Rattle.bindings.specs.declared.Span.{Span}

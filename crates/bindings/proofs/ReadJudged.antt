@@ -7,9 +7,8 @@ use Prim.Native.Nat.{ℕ}
 use Rattle.bindings.specs.Column.{columnsOf}
 use Rattle.bindings.specs.Fit.{fit}
 use Rattle.bindings.proofs.Records.{fit-words}
-use Rattle.bindings.specs.Bindings.{Bindings}
-use Rattle.bindings.specs.Plain.{bindings}
-use Rattle.bindings.specs.Told.{answer, wordsRead, Told}
+use Rattle.bindings.specs.Plain.{Bindings, bindings}
+use Rattle.bindings.specs.BindingsTold.{answer, wordsRead, Told}
 use Rattle.bindings.specs.declared.BindingsRead.{BindingsRead}
 
 pub told-once : (m : List ℕ) (r r′ : BindingsRead) (exit exit′ : List ℕ) → Told m r exit → Told m r′ exit′ → (r ≡ r′) × (exit ≡ exit′)

@@ -13,8 +13,7 @@ use Rattle.lists.proofs.Below.{by-test, both-left, both-right}
 use Rattle.lists.specs.Every.{every, pairwise}
 use Rattle.bindings.specs.Column.{columnsMost}
 use Rattle.wire.specs.Property.{keyProperty, noteProperty, known, cellSize}
-use Rattle.bindings.specs.Fit.{sized, columnFits, differ, spansOf, inside, apart, rowMost, columnsFit, fit}
-use Rattle.bindings.specs.Spans.{spanOf}
+use Rattle.bindings.specs.Fit.{sized, columnFits, differ, spansOf, inside, apart, rowMost, columnsFit, fit, spanOf}
 use Rattle.bindings.specs.Sound.{column, span, Holds, Sound}
 use Rattle.bindings.specs.declared.Value.{Value}
 use Rattle.bindings.specs.declared.Column.{Column}

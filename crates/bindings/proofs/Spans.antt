@@ -12,8 +12,8 @@ use Rattle.lists.specs.Below.{both, either}
 use Rattle.lists.proofs.Below.{by-test}
 use Rattle.lists.specs.Every.{every, pairwise}
 use Rattle.bindings.specs.Column.{columnAt, columnsFrom}
-use Rattle.bindings.specs.Fit.{isUsed, spansOf, inside, apart}
-use Rattle.bindings.specs.Spans.{flagOf, spanOf, spanAt, partIf, spansFrom}
+use Rattle.bindings.specs.Fit.{isUsed, spansOf, inside, apart, flagOf, spanOf}
+use Rattle.bindings.specs.SpanPlaces.{spanAt, partIf, spansFrom}
 use Rattle.bindings.specs.declared.Column.{Column}
 use Rattle.bindings.specs.declared.Span.{Span}
 

@@ -11,9 +11,9 @@ use Rattle.wire.specs.Word.{numberAt}
 use Rattle.bindings.specs.Column.{noWords, keptAll}
 use Rattle.bindings.specs.declared.Column.{Column}
 use Rattle.bindings.proofs.Records.{kept-words}
-use Rattle.bindings.specs.Bindings.{widthAt, describedAt, countAt, columnsAt, columnsOn, bindingsOn, keeping, keptOr}
+use Rattle.bindings.specs.BindingsPlaces.{widthAt, describedAt, countAt, columnsAt, columnsOn, bindingsOn, keeping, keptOr}
 use Rattle.wire.specs.Header.{handleAt}
-use Rattle.bindings.specs.Told.{answer, wordsRead, malformed, Told}
+use Rattle.bindings.specs.BindingsTold.{answer, wordsRead, malformed, Told}
 use Rattle.bindings.specs.declared.BindingsRead.{BindingsRead}
 use Rattle.bindings.proofs.Bindings.{columns-count}
 use Rattle.bindings.proofs.Agree.{bindings-agree}

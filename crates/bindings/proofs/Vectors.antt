@@ -11,38 +11,19 @@ use Rattle.lists.specs.Every.{every, pairwise}
 use Rattle.bindings.specs.Fit.{spansOf, columnsFit, fit}
 use Rattle.bindings.specs.Plain.{zeroBytes, flag, spot, value, property, column, columns, bindings}
 use Rattle.wire.specs.PropertySpec.{setOurs}
+use Rattle.wire.specs.Examples.{wordsOf, spec}
+use Rattle.bindings.specs.Examples.{caseColumns, caseBindings}
 
--- a message: handle 1, the row width, _cbBindingDesc, _dummy, cColumns, columns
-pub message : ℕ → ℕ → ℕ → List ℕ → List ℕ
-message width described count columns = le 4 0xD0 ++ le 4 0 ++ le 4 0 ++ le 4 0 ++ le 4 1 ++ le 4 width ++ le 4 described ++ le 4 7 ++ le 4 count ++ columns
-
-pub ours : List ℕ
-ours = 0x10 ∷ 0x11 ∷ 0x12 ∷ 0x13 ∷ 0x14 ∷ 0x15 ∷ 0x16 ∷ 0x17 ∷ 0x18 ∷ 0x19 ∷ 0x1A ∷ 0x1B ∷ 0x1C ∷ 0x1D ∷ 0x1E ∷ 0x1F ∷ []
-
--- "One column, property 5, type 0x000C at 0, status at 16, length at 20, width 24": each offset after a byte of padding
-pub whole : List ℕ
-whole = message 24 46 1 (ours ++ le 4 1 ++ le 4 5 ++ le 4 0x000C ++ (1 ∷ 0 ∷ 0 ∷ 0 ∷ 16 ∷ 0 ∷ 1 ∷ 0 ∷ 16 ∷ 0 ∷ 1 ∷ 0 ∷ 20 ∷ 0 ∷ []))
-
-pub label : Column
-label =
-    record {
-      property = 5;
-      vtype = 0x000C;
-      value = record { used = 1; offset = 0; size = 16 };
-      status = record { used = 1; offset = 16 };
-      length = record { used = 1; offset = 20 };
-    }
-
-pub whole-case : (bindings whole ≡ some (record { handle = 1; width = 24; columns = label ∷ [] })) × (fit 24 (label ∷ []) ≡ true)
-unfolding message ours whole label bindings columns column property value spot flag zeroBytes setOurs everyBelow number le fit columnsFit every pairwise spansOf
+pub whole-case : (bindings caseBindings ≡ some (record { handle = 1; width = 24; columns = caseColumns })) × (fit 24 caseColumns ≡ true)
+unfolding bindings columns column property value spot flag zeroBytes setOurs everyBelow number le fit columnsFit every pairwise spansOf
 whole-case = (refl, refl)
 
 -- a label with its status alone, whose length flag stands at an odd place, then a key of four bytes
 pub two : ℕ → List ℕ → List ℕ
 two described pad =
-    message 24 described 2
-    (ours ++ le 4 1 ++ le 4 5 ++ le 4 0x000C ++ (0 ∷ 1 ∷ 16 ∷ 0 ∷ 0 ∷ []) ++ pad
-    ++ ours ++ le 4 1 ++ le 4 2 ++ le 4 0x0013 ++ (1 ∷ 0 ∷ 0 ∷ 0 ∷ 4 ∷ 0 ∷ 0 ∷ 0 ∷ []))
+    wordsOf (0xD0 ∷ 0 ∷ 0 ∷ 0 ∷ 1 ∷ 24 ∷ described ∷ 7 ∷ 2 ∷ [])
+    ++ spec 5 ++ le 4 0x000C ++ (0 ∷ 1 ∷ 16 ∷ 0 ∷ 0 ∷ []) ++ pad
+    ++ spec 2 ++ le 4 0x0013 ++ (1 ∷ 0 ∷ 0 ∷ 0 ∷ 4 ∷ 0 ∷ 0 ∷ 0 ∷ [])
 
 pub status-label : Column
 status-label =
@@ -67,5 +48,5 @@ key =
 pub two-columns : (bindings (two 76 (0 ∷ 0 ∷ 0 ∷ [])) ≡ some (record { handle = 1; width = 24; columns = status-label ∷ key ∷ [] }))
     × (bindings (two 76 (0 ∷ 0 ∷ 1 ∷ [])) ≡ none) × (bindings (two 75 (0 ∷ 0 ∷ [])) ≡ none)
     × (fit 24 (status-label ∷ key ∷ []) ≡ true) × (fit 16 (status-label ∷ key ∷ []) ≡ false) × (fit 24 (key ∷ key ∷ []) ≡ false)
-unfolding message ours two status-label key bindings columns column property value spot flag zeroBytes setOurs everyBelow number le fit columnsFit every pairwise spansOf
+unfolding two status-label key bindings columns column property value spot flag zeroBytes setOurs everyBelow number le fit columnsFit every pairwise spansOf
 two-columns = (refl, refl, refl, refl, refl, refl)

@@ -65,3 +65,24 @@ rowMost = 4096
 
 unfoldable pub fit : ℕ → List Column → Bool
 fit width columns = both (within 1 columnsMost (length columns)) (both (within 1 rowMost width) (columnsFit width columns))
+
+-- one of three things, by a number
+abbrev pub third {ℓ} : {A : Type ℓ} → ℕ → A → A → A → A
+third part a b c = pick (eqb part 0) a (pick (eqb part 1) b c)
+
+-- flag, place and size of a part of a column
+abbrev pub flagOf : Column → ℕ → ℕ
+flagOf c part = third part (c .value .used) (c .status .used) (c .length .used)
+
+abbrev pub placeOf : Column → ℕ → ℕ
+placeOf c part = third part (c .value .offset) (c .status .offset) (c .length .offset)
+
+abbrev pub sizeOf : Column → ℕ → ℕ
+sizeOf c part = third part (c .value .size) statusSize lengthSize
+
+-- a span; where it is not used an empty one, which lies in every row and meets none
+abbrev pub spanOr : ℕ → ℕ → ℕ → Span
+spanOr flag place size = pick (isUsed flag) (record { place = place; size = size }) (record { place = 0; size = 0 })
+
+abbrev pub spanOf : Column → ℕ → Span
+spanOf c part = spanOr (flagOf c part) (placeOf c part) (sizeOf c part)

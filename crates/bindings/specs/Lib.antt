@@ -1,8 +1,9 @@
 pub mod Column
 pub mod Fit
-pub mod Spans
+pub mod SpanPlaces
 pub mod Sound
-pub mod Wire
-pub mod Bindings
+pub mod ColumnPlaces
+pub mod BindingsPlaces
 pub mod Plain
-pub mod Told
+pub mod BindingsTold
+pub mod Examples

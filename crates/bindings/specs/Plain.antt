@@ -14,8 +14,21 @@ use Rattle.bindings.specs.declared.Spot.{Spot}
 use Rattle.bindings.specs.declared.Column.{Column}
 use Rattle.wire.specs.Padding.{padding}
 use Rattle.wire.specs.PropertySpec.{setSize, setOurs, numbered}
-use Rattle.bindings.specs.Wire.{typeWidth}
-use Rattle.bindings.specs.Bindings.{Bindings, before}
+
+-- what the body holds
+pub record Bindings : Type 0 where
+  pub handle : ℕ
+  pub width : ℕ
+  pub columns : List Column
+
+-- a column before others that were read
+abbrev pub before : Column → Option (List Column) → Option (List Column)
+before c none = none
+before c (some s) = some (c ∷ s)
+
+-- the bytes of vType, whose width the source leaves open
+abbrev pub typeWidth : ℕ
+typeWidth = 4
 
 -- what was read, the place after it, and the bytes that are left; none where the body is malformed
 abbrev pub Parsed : Type 0 → Type 0

@@ -5,8 +5,7 @@ use Prim.Native.Nat.{ℕ, _+_, _*_, _≤_, _<_}
 use lib.ListN.{length, getD}
 use Rattle.bindings.specs.Column.{columnsMost}
 use Rattle.wire.specs.Property.{keyProperty, noteProperty, cellSize}
-use Rattle.bindings.specs.Fit.{spansOf, rowMost}
-use Rattle.bindings.specs.Spans.{spanOf}
+use Rattle.bindings.specs.Fit.{spansOf, rowMost, spanOf}
 use Rattle.bindings.specs.declared.Column.{Column}
 use Rattle.bindings.specs.declared.Span.{Span}
 

@@ -1,10 +1,10 @@
 // Bindings in a message: a column, and the whole.
 ghost use mathlib.Core.Path.{_≡_};
 ghost use lib.ListN.{length};
-ghost use Rattle.bindings.specs.Wire.{spotOn, valueOn, columnOn};
+ghost use Rattle.bindings.specs.ColumnPlaces.{spotOn, valueOn, columnOn};
 ghost use Rattle.bindings.specs.Column.{roomWords};
-ghost use Rattle.bindings.specs.Bindings.{columnsAt, columnsOn, keeping, keptOr};
-ghost use Rattle.bindings.specs.Told.{malformed, Told};
+ghost use Rattle.bindings.specs.BindingsPlaces.{columnsAt, columnsOn, keeping, keptOr};
+ghost use Rattle.bindings.specs.BindingsTold.{malformed, Told};
 use bindings::BindingsRead;
 use bindings::Column;
 use bindings::ColumnRead;

@@ -3,8 +3,8 @@ ghost use mathlib.Core.Path.{_≡_};
 ghost use Prim.Native.Nat.{_+_, _<_, _≤_};
 ghost use lib.ListN.{length};
 ghost use Rattle.bindings.specs.Column.{roomWords};
-ghost use Rattle.bindings.specs.Fit.{apart, inside};
-ghost use Rattle.bindings.specs.Spans.{spanOr, spanAt, spansMost, spansFrom};
+ghost use Rattle.bindings.specs.Fit.{apart, inside, spanOr};
+ghost use Rattle.bindings.specs.SpanPlaces.{spanAt, spansMost, spansFrom};
 ghost use Rattle.lists.specs.Every.{every, pairwise};
 use bindings::Span;
 

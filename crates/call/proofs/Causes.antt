@@ -9,14 +9,14 @@ use lib.Dec.{ltb}
 use lib.ListN.{length-map}
 use Rattle.lists.proofs.Below.{by-test}
 use Rattle.catalogue.specs.Plain.{catalogue}
-use Rattle.catalogue.specs.Places.{checked, places, noted, rowSeen}
+use Rattle.catalogue.specs.CataloguePlaces.{checked, places, noted, rowSeen}
 use Rattle.catalogue.proofs.Agree.{accepted, catalogue-agrees, rows-counted}
 use Rattle.table.specs.Layout.{seats}
 use Rattle.table.specs.Well.{tableWell, tableBelow}
 use Rattle.refusal.specs.Refusal.{firstCause}
 use Rattle.refusal.proofs.First.{Numbered}
 use Rattle.call.specs.Step.{Sources, sourcesOf, rowsHold, judging}
-use Rattle.call.specs.Judgement.{Judgement}
+use Rattle.call.specs.JudgementTold.{Judgement}
 
 pub judging-numbered : (src : Sources) (t : List ℕ) (seat : ℕ) → Numbered (judging src t seat)
 judging-numbered src t seat = ((λ e. omega arith), ((λ e. omega arith), ((λ e. omega arith), tt)))

@@ -12,7 +12,7 @@ use Rattle.lists.specs.Parts.{put}
 use Rattle.catalogue.specs.Plain.{rowsOf}
 use Rattle.refusal.specs.Refusal.{firstCause}
 use Rattle.message.specs.Message.{seatMessage}
-use Rattle.message.specs.Answers.{Answers}
+use Rattle.message.specs.AnswerTold.{Answers}
 use Rattle.message.specs.declared.Answered.{Answered}
 use Rattle.refusal.proofs.First.{first-stop, first-go}
 use Rattle.call.specs.Step.{Sources, Keeps, judging, seatHeld, sizing, messageStep}

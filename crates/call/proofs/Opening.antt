@@ -12,8 +12,8 @@ use lib.Dec.{eqb}
 use Rattle.lists.proofs.Below.{by-test, true≢false}
 use Rattle.catalogue.specs.Limits.{rowsMost}
 use Rattle.catalogue.specs.Plain.{catalogue}
-use Rattle.catalogue.specs.Places.{checked}
-use Rattle.tree.specs.Noted.{Noted}
+use Rattle.catalogue.specs.CataloguePlaces.{checked}
+use Rattle.tree.specs.SelectReady.{NotedReady}
 use Rattle.tree.proofs.SelectLaws.{noted-by-check}
 use Rattle.table.specs.Layout.{seats, cursorSize, cursorPlace, seatPart}
 use Rattle.lists.specs.Parts.{part, put}
@@ -27,7 +27,7 @@ use Rattle.message.proofs.Bodies.{put-handle}
 use Rattle.refusal.proofs.First.{first-stop, first-go}
 use Rattle.query.specs.Open.{freeHandle, openCauses, openedOn}
 use Rattle.call.specs.Step.{Sources, Keeps, rowsHold, judging, seatHeld, seated, openDone, openStep}
-use Rattle.call.specs.Judgement.{Judgement}
+use Rattle.call.specs.JudgementTold.{Judgement}
 use Rattle.call.specs.declared.Judged.{Judged}
 use Rattle.call.proofs.Causes.{judging-numbered, no-rows}
 use Rattle.call.proofs.Seating.{words-is, seat-ok}
@@ -65,9 +65,9 @@ rows-accepted s t e =
 
 -- so the places that the judgement noted are those of its rows
 pub places-noted : (s t held found : List ℕ) (seat : ℕ) (r : Judged) → Judgement t s seat r held found → r .refusal ≡ 0 → rowsHold (catalogue s) t ≡ true
-    → rowsMost ≤ length held → Noted s (r .rows) found
+    → rowsMost ≤ length held → NotedReady s (r .rows) found
 places-noted s t held found seat r j z h l =
-    subst (λ (n : ℕ). Noted s n found) (sym (j .rows z)) (noted-by-check s held found (checked s) refl (rows-accepted s t h) (j .placed z) l)
+    subst (λ (n : ℕ). NotedReady s n found) (sym (j .rows z)) (noted-by-check s held found (checked s) refl (rows-accepted s t h) (j .placed z) l)
 
 pub closed : (o : Option Cursor) → isOpen o ≡ false → o ≡ none
 closed none e = refl

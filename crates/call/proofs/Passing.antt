@@ -12,7 +12,7 @@ use lib.ListN.{length, getD, length-map}
 use Rattle.lists.proofs.Below.{by-test, true≢false, both-left, both-right, both-true, every-at, every-shown}
 use Rattle.lists.proofs.Options.{none≢some, some-is}
 use Rattle.catalogue.specs.Plain.{Row, catalogue, rowsOf}
-use Rattle.catalogue.specs.Places.{checked, places, rowSeen}
+use Rattle.catalogue.specs.CataloguePlaces.{checked, places, rowSeen}
 use Rattle.catalogue.proofs.Agree.{accepted, catalogue-agrees, rows-counted}
 use Rattle.lists.specs.Every.{every}
 use Rattle.tree.specs.Tree.{Tree}
@@ -38,11 +38,7 @@ use Rattle.query.specs.Open.{freeHandle, openCauses, openedOn}
 use Rattle.call.specs.Step.{Sources, sourcesOf, openDone, openStep, rowsHold, judging, seatHeld, isConnected, seated, sizing, connectCauses, connectStep, messageStep}
 use Rattle.call.proofs.Causes.{judging-numbered, passes}
 use Rattle.call.proofs.Seating.{seat-ok}
-
--- a table that 2 and 3 let pass
-pub record Passing (src : Sources) (t : List ℕ) : Type 0 where
-  pub well : tableWell t ≡ true
-  pub holds : rowsHold (src .rows) t ≡ true
+use Rattle.call.specs.Passing.{Passing}
 
 -- a seat of the table, below a bound
 pub seat-below : (bound : ℕ) (t : List ℕ) → tableBelow bound t ≡ true → (seat : ℕ) → seat < seats → seatBelow bound (seatHeld t seat) ≡ true

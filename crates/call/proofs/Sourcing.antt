@@ -10,19 +10,18 @@ use native.Mathlib.Omega.{arith}
 use lib.ListN.{length, getD, take, drop, length-map}
 use lib.Seq.{length-sets}
 use Rattle.lists.proofs.Below.{true≢false}
-use Rattle.catalogue.specs.Plain.{Row, catalogue, rowsOf}
-use Rattle.catalogue.specs.Places.{places, rowSeen}
+use Rattle.catalogue.specs.Plain.{Row, catalogue, rowsOf, rowIn}
+use Rattle.catalogue.specs.CataloguePlaces.{places, rowSeen}
 use Rattle.catalogue.proofs.Agree.{catalogue-agrees}
-use Rattle.page.specs.Reads.{rowIn}
-use Rattle.tree.specs.Noted.{Noted}
+use Rattle.tree.specs.SelectReady.{NotedReady}
 use Rattle.tree.proofs.SelectLaws as Laws
 use Rattle.table.specs.Layout.{seats, seatSize}
 use Rattle.table.specs.Well.{seatBelow}
 use Rattle.lists.proofs.Parts.{part-is}
-use Rattle.fetch.specs.Ready.{Placed}
-use Rattle.message.specs.Answers.{Sourced}
+use Rattle.catalogue.specs.CatalogueReady.{PlacesReady}
+use Rattle.message.specs.AnswerReady.{SourcesReady}
 use Rattle.call.specs.Step.{rowsHold, seatHeld}
-use Rattle.call.specs.Judgement.{Judgement}
+use Rattle.call.specs.JudgementTold.{Judgement}
 use Rattle.call.specs.declared.Judged.{Judged}
 use Rattle.call.proofs.Passing.{seat-below}
 
@@ -32,7 +31,7 @@ row-at s [] k h = absurd (not-suc-le-zero h)
 row-at s (p ∷ at) zero h = refl
 row-at s (p ∷ at) (suc k) h = row-at s at k (le-of-suc-le-suc h)
 
-pub noted-placed : (s : List ℕ) (rows : ℕ) (held : List ℕ) → Noted s rows held → Placed s held
+pub noted-placed : (s : List ℕ) (rows : ℕ) (held : List ℕ) → NotedReady s rows held → PlacesReady s held
 noted-placed s rows held n =
     rw seen
     (λ k h.
@@ -48,10 +47,10 @@ noted-placed s rows held n =
     inside k h = omega (arith, before k h, Laws.counted s rows held n)
 
 -- so a seat's words and the places may be handed on
-pub sourced : (s t : List ℕ) (seat rows : ℕ) (held : List ℕ) → seat < seats → rowsHold (catalogue s) t ≡ true → Noted s rows held
-    → Sourced (take (seatSize * seat + seatSize - seatSize * seat) (drop (seatSize * seat) t)) s held
+pub sourced : (s t : List ℕ) (seat rows : ℕ) (held : List ℕ) → seat < seats → rowsHold (catalogue s) t ≡ true → NotedReady s rows held
+    → SourcesReady (take (seatSize * seat + seatSize - seatSize * seat) (drop (seatSize * seat) t)) s held
 sourced s t seat rows held l h n =
-    subst (λ (b : List ℕ). Sourced b s held) (sym (part-is t (seatSize * seat) seatSize))
+    subst (λ (b : List ℕ). SourcesReady b s held) (sym (part-is t (seatSize * seat) seatSize))
     (record { below = go (catalogue s) h; placed = noted-placed s rows held n })
   where
     go : (found : Option (List Row)) → rowsHold found t ≡ true → seatBelow (length (rowsOf found)) (seatHeld t seat) ≡ true

@@ -1,2 +1,3 @@
 pub mod Step
-pub mod Judgement
+pub mod JudgementTold
+pub mod Passing

@@ -105,3 +105,11 @@ openStep src t seat tree =
     pick (eqb (firstCause (judging src t seat ++ openCauses (seatHeld t seat) tree)) 0)
     (openDone src t seat tree (seatHeld t seat))
     (quiet (firstCause (judging src t seat ++ openCauses (seatHeld t seat) tree)) t)
+
+-- the same answer, the same words, the same bytes, for every call whose statement is `Keeps` of its step
+pub record Same (refusal refusal′ handle handle′ count count′ : ℕ) (words words′ exit exit′ : List ℕ) : Type 0 where
+  pub refused : refusal ≡ refusal′
+  pub given : handle ≡ handle′
+  pub counted : count ≡ count′
+  pub kept : words ≡ words′
+  pub written : exit ≡ exit′

@@ -1,5 +1,5 @@
 // What is judged of every call: refusals 1 to 3.
-ghost use Rattle.call.specs.Judgement.{Judgement};
+ghost use Rattle.call.specs.JudgementTold.{Judgement};
 use call::Judged;
 
 // Refusals 1 to 3. The place of each row is noted.

@@ -15,13 +15,13 @@ use Rattle.lists.specs.Below.{pick, both, everyBelow}
 use Rattle.wire.specs.Word.{halves}
 use Rattle.lists.proofs.Below.{by-test, true≢false}
 use Rattle.catalogue.specs.Groups.{groups, within, number, splitAfter}
-use Rattle.catalogue.specs.Reading.{placed, readingAt}
+use Rattle.catalogue.specs.NumberPlaces.{placed, readingAt}
 use Rattle.catalogue.specs.declared.Reading.{Reading}
 use Rattle.catalogue.specs.declared.Reading.the-variants.{Number, Malformed}
 use Rattle.catalogue.specs.Limits.{rowsMost, keyMost, numberMost, sizeMost, bytesMost}
 use Rattle.lists.specs.Options.{andThen}
 use Rattle.catalogue.specs.Plain.{Row, noneZero, textAfter, text, row, rows, whole, catalogue, refusalOf}
-use Rattle.catalogue.specs.Places.{withNumber, withText, withRow, textAfterAt, textAt, rowAt, rowsEnd, placesFrom, counted, malformed, checked, places, textOf, rowOf, rowSeen}
+use Rattle.catalogue.specs.CataloguePlaces.{withNumber, withText, withRow, textAfterAt, textAt, rowAt, rowsEnd, placesFrom, counted, malformed, checked, places, textOf, rowOf, rowSeen}
 use Rattle.catalogue.specs.declared.Text.{Text}
 use Rattle.catalogue.specs.declared.Fields.{Fields}
 use Rattle.catalogue.specs.declared.TextAt.{TextAt}

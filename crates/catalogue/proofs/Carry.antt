@@ -14,7 +14,7 @@ use lib.Seq.{drop-cons}
 use Rattle.lists.specs.Below.{pick}
 use Rattle.lists.proofs.Below.{by-test}
 use Rattle.catalogue.specs.Groups.{groups, further, within}
-use Rattle.catalogue.specs.Reading.{placed, readingAt}
+use Rattle.catalogue.specs.NumberPlaces.{placed, readingAt}
 use Rattle.catalogue.specs.declared.Reading.{Reading}
 use Rattle.catalogue.specs.declared.Reading.the-variants.{Number, Malformed}
 

@@ -5,10 +5,10 @@ use mathlib.Core.List.{List}
 use Prim.Native.Nat.{ℕ, _≤_, _<_}
 use borrow.Author.Tests.{le-leb, lt-leb}
 use lib.ListN.{length}
-use Rattle.catalogue.specs.Reading.{readingAt}
+use Rattle.catalogue.specs.NumberPlaces.{readingAt}
 use Rattle.catalogue.specs.declared.Reading.the-variants.{Number, Malformed}
 use Rattle.catalogue.specs.Limits.{rowsMost, bytesMost}
-use Rattle.catalogue.specs.Places.{malformed, counted, checked, places}
+use Rattle.catalogue.specs.CataloguePlaces.{malformed, counted, checked, places}
 use Rattle.catalogue.specs.declared.Checked.{Checked}
 use Rattle.catalogue.specs.CheckTold.{ChecksRows, Checks}
 

@@ -3,10 +3,10 @@ use mathlib.Core.Path.{_≡_, refl, sym, ap, _∙_}
 use mathlib.Core.List.{List}
 use Prim.Native.Nat.{ℕ}
 use native.Mathlib.Omega.{arith}
-use Rattle.catalogue.specs.Reading.{readingAt}
+use Rattle.catalogue.specs.NumberPlaces.{readingAt}
 use Rattle.catalogue.specs.declared.Reading.the-variants.{Number}
 use Rattle.catalogue.specs.Limits.{keyMost, numberMost}
-use Rattle.catalogue.specs.Places.{withText, textAt, rowAt, textEnd, rowEnd}
+use Rattle.catalogue.specs.CataloguePlaces.{withText, textAt, rowAt, textEnd, rowEnd}
 use Rattle.catalogue.specs.declared.Text.{Text}
 use Rattle.catalogue.specs.declared.Fields.{Fields}
 use Rattle.catalogue.specs.declared.TextAt.{TextAt}

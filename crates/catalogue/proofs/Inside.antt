@@ -10,7 +10,7 @@ use lib.ListN.{length, drop, length-drop}
 use Rattle.lists.proofs.Below.{by-test}
 use Rattle.lists.proofs.Options.{none≢some, pair-is}
 use Rattle.catalogue.specs.Groups.{groups, further, within}
-use Rattle.catalogue.specs.Reading.{placed, readingAt}
+use Rattle.catalogue.specs.NumberPlaces.{placed, readingAt}
 use Rattle.catalogue.specs.declared.Reading.the-variants.{Number, Malformed}
 
 -- what the groups after a group must have held

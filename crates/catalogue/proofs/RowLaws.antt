@@ -11,13 +11,14 @@ use lib.ListN.{length, take, drop}
 use Rattle.lists.specs.Below.{both}
 use Rattle.wire.specs.Word.{halves}
 use Rattle.lists.proofs.Below.{by-test, both-left, both-right}
-use Rattle.catalogue.specs.Reading.{readingAt}
+use Rattle.catalogue.specs.NumberPlaces.{readingAt}
 use Rattle.catalogue.specs.declared.Reading.{Reading}
 use Rattle.catalogue.specs.declared.Reading.the-variants.{Number, Malformed}
 use Rattle.catalogue.proofs.Inside.{Read, reading-read}
 use Rattle.catalogue.specs.Limits.{keyMost, numberMost, sizeMost}
 use Rattle.catalogue.specs.Plain.{noneZero}
-use Rattle.catalogue.specs.Places.{withNumber, withText, unitBytesOf, unitsPart, textAfterAt, textAt, rowAt, TextThere, RowThere}
+use Rattle.catalogue.specs.CataloguePlaces.{withNumber, withText, unitBytesOf, unitsPart, textAfterAt, textAt, rowAt}
+use Rattle.catalogue.specs.CatalogueReady.{TextAtReady, RowAtReady, UnitsReady, FieldsReady}
 use Rattle.catalogue.specs.declared.Text.{Text}
 use Rattle.catalogue.specs.declared.Fields.{Fields}
 use Rattle.catalogue.specs.declared.TextAt.{TextAt}
@@ -116,8 +117,23 @@ row-read s at f next e =
 pub row-inside : (s : List ℕ) (at : ℕ) (f : Fields) (next : ℕ) → rowAt s at ≡ RowTo f next → next ≤ length s
 row-inside s at f next e = row-read s at f next e .note .inside
 
+-- the fields of a row that was read may be looked at
+text-ready : (s : List ℕ) (at : ℕ) (t : Text) (next : ℕ) → TextRead s at t next → UnitsReady s t
+text-ready s at t next h = record { small = h .small; inside = omega (arith, h .ends, h .inside) }
+
+pub row-ready : (s : List ℕ) (at : ℕ) (f : Fields) (next : ℕ) → rowAt s at ≡ RowTo f next → FieldsReady s f
+row-ready s at f next e =
+    let r = row-read s at f next e in
+    record {
+      key = r .key;
+      language = r .language;
+      default = r .default;
+      label = text-ready s (r .labelAt) (f .label) (r .labelNext) (r .label);
+      note = text-ready s (r .labelNext) (f .note) next (r .note);
+    }
+
 -- a text that stands at a place is known by its size, and a row's texts stand where its numbers end
-pub text-known : (s : List ℕ) (at size start : ℕ) → readingAt sizeMost s at ≡ Number size start → TextThere s at
+pub text-known : (s : List ℕ) (at size start : ℕ) → readingAt sizeMost s at ≡ Number size start → TextAtReady s at
     → TextTo (record { size = size; start = start }) (start + unitBytesOf size) ≡ textAt s at
 unfolding textAt
 text-known s at size start e there =
@@ -128,15 +144,15 @@ text-known s at size start e there =
     (λ q. absurd (no-text (rw q at f)))
 
 module _ (s : List ℕ) (at key at₁ language at₂ default at₃ : ℕ) (a : readingAt keyMost s at ≡ Number key at₁) (b : readingAt numberMost s at₁ ≡ Number language at₂)
-    (c : readingAt numberMost s at₂ ≡ Number default at₃) (there : RowThere s at) where
-  pub label-there : TextThere s at₃
+    (c : readingAt numberMost s at₂ ≡ Number default at₃) (there : RowAtReady s at) where
+  pub label-there : TextAtReady s at₃
   unfolding rowAt
   label-there =
       let e = rw (a, b, c) at (there .2) in
       let i = text-inv NoRow (textAt s at₃) _ (RowTo (there .0) (there .1)) no-row e in
       (i .0, i .1, i .2)
 
-  pub note-there : (label : Text) (at₄ : ℕ) → textAt s at₃ ≡ TextTo label at₄ → TextThere s at₄
+  pub note-there : (label : Text) (at₄ : ℕ) → textAt s at₃ ≡ TextTo label at₄ → TextAtReady s at₄
   unfolding rowAt
   note-there label at₄ d =
       let e = rw (a, b, c, d) at (there .2) in

@@ -8,7 +8,7 @@ use native.Mathlib.Omega.{arith}
 use lib.Dec.{eqb}
 use lib.ListN.{length, set}
 use lib.Seq.{sets}
-use Rattle.catalogue.specs.Places.{rowAt, rowEnd, rowsEnd, placesFrom}
+use Rattle.catalogue.specs.CataloguePlaces.{rowAt, rowEnd, rowsEnd, placesFrom}
 use Rattle.catalogue.specs.declared.Fields.{Fields}
 use Rattle.catalogue.specs.declared.RowAt.{RowAt}
 use Rattle.catalogue.specs.declared.RowAt.the-variants.{RowTo, NoRow}

@@ -12,10 +12,10 @@ use Rattle.wire.specs.Word.{numberAt, halves}
 use Rattle.lists.proofs.Below.{every-next, every-next-not}
 use Rattle.wire.proofs.Halves.{halves-length, halves-at}
 use Rattle.catalogue.specs.Plain.{noneZero}
-use Rattle.catalogue.specs.Reading.{readingAt}
+use Rattle.catalogue.specs.NumberPlaces.{readingAt}
 use Rattle.catalogue.specs.declared.Reading.the-variants.{Number}
 use Rattle.catalogue.specs.Limits.{sizeMost}
-use Rattle.catalogue.specs.Places.{textAfterAt, textAt, textEnd, unitBytesOf}
+use Rattle.catalogue.specs.CataloguePlaces.{textAfterAt, textAt, textEnd, unitBytesOf}
 use Rattle.catalogue.specs.declared.TextAt.the-variants.{TextTo, NoText}
 
 -- none of the first n units is zero

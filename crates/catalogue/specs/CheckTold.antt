@@ -4,7 +4,7 @@ use mathlib.Core.Bool.{Bool}
 use mathlib.Core.List.{List}
 use Prim.Native.Nat.{ℕ}
 use lib.Seq.{sets}
-use Rattle.catalogue.specs.Places.{rowsEnd, placesFrom, checked, noted}
+use Rattle.catalogue.specs.CataloguePlaces.{rowsEnd, placesFrom, checked, noted}
 use Rattle.catalogue.specs.declared.Checked.{Checked}
 
 -- so many rows from a place on: whether they end the bytes, and their places

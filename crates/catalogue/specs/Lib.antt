@@ -1,8 +1,9 @@
 pub mod Groups
-pub mod Reading
+pub mod NumberPlaces
 pub mod Limits
 pub mod Plain
 pub mod Writer
-pub mod Places
-pub mod Seen
+pub mod CatalogueReady
+pub mod CataloguePlaces
 pub mod CheckTold
+pub mod Examples

@@ -69,3 +69,7 @@ rowsOf (some rows) = rows
 
 abbrev pub rowsIn : List ℕ → List Row
 rowsIn s = rowsOf (catalogue s)
+
+-- the j-th of rows; past the end, one of no fields
+abbrev pub rowIn : List Row → ℕ → Row
+rowIn rows j = getD rows j (record { key = 0; language = 0; default = 0; label = none; note = none })

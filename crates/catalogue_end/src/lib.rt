@@ -2,7 +2,7 @@
 ghost use mathlib.Core.Path.{_≡_};
 ghost use Rattle.wire.specs.Word.{halves};
 ghost use Rattle.catalogue.specs.Plain.{noneZero};
-ghost use Rattle.catalogue.specs.Places.{textAt, rowAt, textEnd, rowEnd};
+ghost use Rattle.catalogue.specs.CataloguePlaces.{textAt, rowAt, textEnd, rowEnd};
 use catalogue::Reading;
 
 // No unit of a part is zero. There is no early return, so that many units are looked at in one step.

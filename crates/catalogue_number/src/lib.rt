@@ -3,7 +3,7 @@ ghost use mathlib.Core.Path.{_≡_};
 ghost use Prim.Native.Nat.{_+_, _<_};
 ghost use lib.ListN.{length, drop};
 ghost use Rattle.catalogue.specs.Groups.{groups, further, within};
-ghost use Rattle.catalogue.specs.Reading.{placed, readingAt};
+ghost use Rattle.catalogue.specs.NumberPlaces.{placed, readingAt};
 use catalogue::Reading;
 
 // The number that begins at a place, if it is well formed and at most the limit, where the group there has its top bit set

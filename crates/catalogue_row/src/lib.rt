@@ -3,8 +3,8 @@ ghost use mathlib.Core.Path.{_≡_};
 ghost use Prim.Native.Nat.{_+_, _^_, _≤_, _<_};
 ghost use lib.ListN.{length};
 ghost use Rattle.catalogue.specs.Limits.{sizeMost};
-ghost use Rattle.catalogue.specs.Places.{unitBytesOf, unitsPart, textAt, rowAt, TextThere, RowThere};
-ghost use Rattle.catalogue.specs.Seen.{fieldsSeen};
+ghost use Rattle.catalogue.specs.CataloguePlaces.{unitBytesOf, unitsPart, textAt, rowAt, fieldsSeen};
+ghost use Rattle.catalogue.specs.CatalogueReady.{TextAtReady, RowAtReady};
 use catalogue::Fields;
 use catalogue::Reading;
 use catalogue::RowAt;
@@ -35,7 +35,7 @@ pub fn units(catalogue: &[u8], text: Text) -> &[u8]
 
 // The text that is known to stand at a place: its units are not looked at again.
 fn text_again(catalogue: &[u8], at: usize) -> TextAt
-    requires { ⌜ TextThere (now catalogue) at ⌝ }
+    requires { ⌜ TextAtReady (now catalogue) at ⌝ }
     ensures { λ r. ⌜ r ≡ textAt (now (catalogue .entry)) at ⌝ }
 {
     let Reading::Number(told, start) = catalogue_number::read(catalogue, at, catalogue::SIZE_MOST)
@@ -49,7 +49,7 @@ fn text_again(catalogue: &[u8], at: usize) -> TextAt
 
 // The row that is known to stand at a place, as one that the check noted.
 pub fn row_again(catalogue: &[u8], at: usize) -> RowAt
-    requires { ⌜ RowThere (now catalogue) at ⌝ }
+    requires { ⌜ RowAtReady (now catalogue) at ⌝ }
     ensures { λ r. ⌜ r ≡ rowAt (now (catalogue .entry)) at ⌝ }
 {
     let Reading::Number(key, at1) = catalogue_number::read(catalogue, at, catalogue::KEY_MOST)
@@ -90,7 +90,7 @@ pub fn row_again(catalogue: &[u8], at: usize) -> RowAt
 
 // The fields of the row at a place that the check noted.
 pub fn fields_at(catalogue: &[u8], at: usize) -> Fields
-    requires { ⌜ RowThere (now catalogue) at ⌝ }
+    requires { ⌜ RowAtReady (now catalogue) at ⌝ }
     ensures { λ r. ⌜ r ≡ fieldsSeen (now (catalogue .entry)) at ⌝ }
 {
     let RowAt::RowTo(fields, _) = row_again(catalogue, at) else {

@@ -13,7 +13,8 @@ use lib.ListN.{length, getD, take, drop, length-drop}
 use lib.Seq.{take-take, take-all, drop-drop, getD-take, getD-drop}
 use Rattle.lists.proofs.Below.{both-left, both-right, both-true}
 use Rattle.catalogue.specs.Plain.{Row, catalogue, rowsOf}
-use Rattle.catalogue.specs.Places.{RowThere, rowSeen}
+use Rattle.catalogue.specs.CataloguePlaces.{rowSeen}
+use Rattle.catalogue.specs.CatalogueReady.{RowAtReady, PlacesReady}
 use Rattle.lists.specs.Every.{every}
 use Rattle.bindings.specs.Fit.{rowMost, fit}
 use Rattle.table.specs.Layout.{cursorSize, rowsSize, recordsAt, recordsSize}
@@ -24,11 +25,11 @@ use Rattle.lists.proofs.Parts.{part-length}
 use Rattle.bindings.proofs.Sound.{fit-sound}
 use Rattle.refusal.specs.Refusal.{firstCause}
 use Rattle.fetch.specs.declared.Request.{Request}
-use Rattle.page.specs.Rows.{rowsAt}
-use Rattle.page.specs.RowReady.{Words, There}
+use Rattle.page.specs.RowPlaces.{rowsAt}
+use Rattle.page.specs.RowReady.{RecordsReady, NumbersReady}
 use Rattle.page.proofs.FillSteps.{rows-more}
 use Rattle.fetch.specs.Fetch.{numbered, remaining, earlyCauses}
-use Rattle.fetch.specs.Ready.{Placed, FetchReady}
+use Rattle.fetch.specs.FetchReady.{FetchReady}
 
 -- a part of a list's first members is a part of the list
 pub part-of-first : (p n count : ℕ) (t : List ℕ) → p + n ≤ count → take n (drop p (take count t)) ≡ take n (drop p t)
@@ -44,7 +45,7 @@ every-drop test (suc n) [] e = e
 every-drop test (suc n) (a ∷ t) e = every-drop test n t (both-right (test a) _ e)
 
 -- rows by their places are rows by their numbers
-numbered-are : (s places numbers : List ℕ) → Placed s places → every (λ row. ltb row (length (rowsOf (catalogue s)))) numbers ≡ true
+numbered-are : (s places numbers : List ℕ) → PlacesReady s places → every (λ row. ltb row (length (rowsOf (catalogue s)))) numbers ≡ true
     → rowsAt s places numbers ≡ numbered (rowsOf (catalogue s)) numbers
 unfolding every
 numbered-are s places [] p e = refl
@@ -54,8 +55,8 @@ numbered-are s places (k ∷ numbers) p e =
     (numbered-are s places numbers p (both-right (ltb k (length (rowsOf (catalogue s)))) _ e))
 
 -- and each stands there
-numbered-there : (s places numbers : List ℕ) → Placed s places → every (λ row. ltb row (length (rowsOf (catalogue s)))) numbers ≡ true
-    → There s places numbers
+numbered-there : (s places numbers : List ℕ) → PlacesReady s places → every (λ row. ltb row (length (rowsOf (catalogue s)))) numbers ≡ true
+    → NumbersReady s places numbers
 unfolding every
 numbered-there s places [] p e i h = absurd (not-suc-le-zero h)
 numbered-there s places (k ∷ numbers) p e zero h =
@@ -98,14 +99,14 @@ module _ (b s places : List ℕ) (q : Request) (buffer : ℕ) (r : FetchReady b 
       (every-drop (λ row. ltb row (length (rowsOf (catalogue s)))) (getD b 1 0) (cursorHeld b .selection) (r .below))
 
   -- the rows that a part of those numbers names
-  pub part-there : (n : ℕ) → getD b 1 0 + n ≤ getD b 2 0 → There s places (take n (drop (50 + getD b 1 0) b))
+  pub part-there : (n : ℕ) → getD b 1 0 + n ≤ getD b 2 0 → NumbersReady s places (take n (drop (50 + getD b 1 0) b))
   part-there n h =
-      subst (There s places) (sym (numbers-are n h))
+      subst (NumbersReady s places) (sym (numbers-are n h))
       (numbered-there s places (take n (drop (getD b 1 0) (cursorHeld b .selection))) (r .placed)
       (every-take (λ row. ltb row (length (rowsOf (catalogue s)))) n (drop (getD b 1 0) (cursorHeld b .selection))
       (every-drop (λ row. ltb row (length (rowsOf (catalogue s)))) (getD b 1 0) (cursorHeld b .selection) (r .below))))
 
-  pub all-there : There s places (take (50 + getD b 2 0 - (50 + getD b 1 0)) (drop (50 + getD b 1 0) b))
+  pub all-there : NumbersReady s places (take (50 + getD b 2 0 - (50 + getD b 1 0)) (drop (50 + getD b 1 0) b))
   all-there = part-there (50 + getD b 2 0 - (50 + getD b 1 0)) (omega (arith, position-most))
 
   pub all-rows : rowsAt s places (take (50 + getD b 2 0 - (50 + getD b 1 0)) (drop (50 + getD b 1 0) b)) ≡ remaining (rowsOf (catalogue s)) (cursorHeld b)
@@ -124,9 +125,9 @@ module _ (b s places : List ℕ) (q : Request) (buffer : ℕ) (r : FetchReady b 
     number-is : getD b (50 + getD b 1 0) 0 ≡ getD (cursorHeld b .selection) (getD b 1 0) 0
     number-is = sym (getD-take (getD b 2 0) (drop 50 b) (getD b 1 0) 0 h ∙ getD-drop 50 b (getD b 1 0) 0)
 
-    pub first-there : RowThere s (getD places (getD b (50 + getD b 1 0) 0) 0)
+    pub first-there : RowAtReady s (getD places (getD b (50 + getD b 1 0) 0) 0)
     first-there =
-        subst (λ (n : ℕ). RowThere s (getD places n 0)) (sym number-is)
+        subst (λ (n : ℕ). RowAtReady s (getD places n 0)) (sym number-is)
         (numbered-there s places (cursorHeld b .selection) (r .placed) (r .below) (getD b 1 0) (omega (arith, count-is)))
 
     pub first-row : remaining (rowsOf (catalogue s)) (cursorHeld b)
@@ -148,7 +149,7 @@ module _ (b s places : List ℕ) (q : Request) (buffer : ℕ) (r : FetchReady b 
         (λ (f : fit (cursorHeld b .width) (cursorHeld b .columns) ≡ true). f)
         (r .fits .bound)
 
-    pub words-ready : Words (part b recordsAt recordsSize) (getD b 3 0)
+    pub words-ready : RecordsReady (part b recordsAt recordsSize) (getD b 3 0)
     words-ready =
         record {
           long = part-length b recordsAt recordsSize (omega (arith, size-is));

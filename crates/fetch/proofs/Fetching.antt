@@ -19,7 +19,8 @@ use Rattle.page.specs.Page.{statusFor}
 use Rattle.page.proofs.Greatest.{returned-room}
 use Rattle.page.proofs.Reply.{bytes-length}
 use Rattle.fetch.specs.Fetch.{remaining, firstUnfit, earlyCauses, fetchCauses, sent, rowsSent, thenLeft, fetchReply}
-use Rattle.fetch.specs.Ready.{FetchReady, Fetched}
+use Rattle.fetch.specs.FetchReady.{FetchReady}
+use Rattle.fetch.specs.FetchTold.{Fetched}
 use Rattle.fetch.proofs.Facts.{bindings-fit}
 use Rattle.fetch.proofs.Sending.{inside}
 

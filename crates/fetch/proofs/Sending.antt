@@ -4,22 +4,22 @@ use mathlib.Core.List.{List, _++_}
 use Prim.Native.Nat.{ℕ, _+_, _-_, _≤_}
 use native.Mathlib.Omega.{arith}
 use lib.ListN.{length, getD, take, drop, length-take, length-drop, length-map}
-use Rattle.catalogue.specs.Plain.{Row, catalogue, rowsOf}
-use Rattle.catalogue.specs.Places.{rowSeen}
+use Rattle.catalogue.specs.Plain.{Row, catalogue, rowsOf, rowIn}
+use Rattle.catalogue.specs.CataloguePlaces.{rowSeen}
 use Rattle.table.specs.Layout.{recordsAt, recordsSize}
 use Rattle.lists.specs.Parts.{part}
 use Rattle.table.specs.Seat.{Cursor, cursorHeld}
 use Rattle.refusal.specs.Refusal.{firstCause}
 use Rattle.fetch.specs.Request.{Sound}
 use Rattle.fetch.specs.declared.Request.{Request}
-use Rattle.page.specs.Rows.{rowsAt, returned}
+use Rattle.page.specs.Rows.{returned}
+use Rattle.page.specs.RowPlaces.{rowsAt}
 use Rattle.page.specs.Page.{page, statusFor}
-use Rattle.page.specs.Reads.{rowIn}
 use Rattle.page.specs.PageReady.{PageReady}
 use Rattle.page.proofs.Greatest.{returned-is, returned-room}
 use Rattle.page.proofs.Reply.{page-is}
 use Rattle.fetch.specs.Fetch.{remaining, earlyCauses, sent, rowsSent, thenLeft, fetchReply}
-use Rattle.fetch.specs.Ready.{FetchReady}
+use Rattle.fetch.specs.FetchReady.{FetchReady}
 use Rattle.fetch.proofs.Facts.{count-is, count-most, position-most, all-rows, bindings-fit, words-ready}
 
 -- the rows that remain, and no more than they are sent

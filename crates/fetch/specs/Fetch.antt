@@ -5,12 +5,11 @@ use Prim.Native.Nat.{ℕ, _+_, _-_}
 use lib.Dec.{ltb, eqb}
 use lib.ListN.{length, take, drop}
 use Rattle.lists.specs.Below.{both}
-use Rattle.catalogue.specs.Plain.{Row}
+use Rattle.catalogue.specs.Plain.{Row, rowIn}
 use Rattle.table.specs.Seat.{Cursor, moved}
 use Rattle.fetch.specs.declared.Request.{Request}
 use Rattle.page.specs.Rows.{blocks, returned}
 use Rattle.page.specs.Page.{pageBytes, statusFor}
-use Rattle.page.specs.Reads.{rowIn}
 
 -- the rows that have these numbers
 abbrev pub numbered : List Row → List ℕ → List Row

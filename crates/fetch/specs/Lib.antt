@@ -1,4 +1,5 @@
 pub mod Request
 pub mod Asking
 pub mod Fetch
-pub mod Ready
+pub mod FetchTold
+pub mod FetchReady

@@ -7,7 +7,8 @@ ghost use Rattle.table.specs.Layout.{cursorSize};
 ghost use Rattle.table.specs.Seat.{cursorHeld};
 ghost use Rattle.refusal.specs.Refusal.{firstCause};
 ghost use Rattle.fetch.specs.Fetch.{notServed, firstUnfit, remaining, earlyCauses, sent, fetchReply};
-ghost use Rattle.fetch.specs.Ready.{FetchReady, Fetched};
+ghost use Rattle.fetch.specs.FetchReady.{FetchReady};
+ghost use Rattle.fetch.specs.FetchTold.{Fetched};
 use fetch::Request;
 use page::Row;
 

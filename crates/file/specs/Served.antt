@@ -3,21 +3,23 @@
 use mathlib.Core.Path.{_≡_}
 use mathlib.Core.Bool.{false}
 use mathlib.Core.List.{List, [], _++_}
-use Prim.Native.Nat.{ℕ, _+_, _/_, _%_, _≤_}
+use Prim.Native.Nat.{ℕ, _+_, _/_, _%_, _≤_, _*_}
 use lib.ListN.{length, take, drop, set}
 use Rattle.wire.specs.Laid.{lay}
 use Rattle.line.specs.Digits.{hexBytes}
-use Rattle.line.specs.Line.{catalogueMost}
+use Rattle.line.specs.Line.{catalogueMost, roomMost}
 use Rattle.lists.specs.Parts.{between}
 use Rattle.line.specs.declared.Call.{Call}
 use Rattle.line.specs.declared.Call.the-variants as call
 use Rattle.line.specs.Text.{Put}
-use Rattle.line.specs.Answer.{errorText, connectText, openText, messageText}
-use Rattle.line.specs.Kept.{keptCall}
-use Rattle.line.specs.LineRoom.{outFull, waits}
+use Rattle.line.specs.Answer.{errorText, connectText, openText, messageText, plain}
+use Rattle.line.specs.Kept.{keptCall, outFull, waits}
 use Rattle.line.specs.declared.Place.{Place}
-use Rattle.file.specs.Room.{answerMost}
 use Rattle.call.specs.Step.{Outcome, sourcesOf, connectStep, openStep, messageStep}
+
+-- the bytes of any answer, at most: those of a reply in hex digits, beside the words
+abbrev pub answerMost : ℕ
+answerMost = 2 * roomMost + plain
 
 -- a call's answer, nothing or a line, and the table's words afterwards
 pub record Answer : Type 0 where

@@ -2,17 +2,17 @@
 ghost use mathlib.Core.Path.{_≡_};
 ghost use Prim.Native.Nat.{_≤_};
 ghost use lib.ListN.{length};
-ghost use Rattle.line.specs.Line.{Fits};
-ghost use Rattle.line.specs.Kept.{Kept, keptCall};
-ghost use Rattle.line.specs.LineRoom.{Stands, waits};
+ghost use Rattle.line.specs.CallReady.{CallReady};
+ghost use Rattle.line.specs.Kept.{Kept, keptCall, waits};
+ghost use Rattle.line.specs.PlaceReady.{PlaceReady};
 use line::Call;
 use line::Place;
 use line::Reason;
 
 // Keeps the bytes of a part of a line, as far as there is room.
 pub fn keep(line: &mut [u8], place: Place, part: &[u8]) -> Place
-    requires { ⌜ Stands (length (now line)) place ⌝ }
-    ensures { λ r. ⌜ Kept (now (line .entry)) place (now (part .entry)) r (now (line .exit)) × Stands (length (now (line .entry))) r ⌝ }
+    requires { ⌜ PlaceReady (length (now line)) place ⌝ }
+    ensures { λ r. ⌜ Kept (now (line .entry)) place (now (part .entry)) r (now (line .exit)) × PlaceReady (length (now (line .entry))) r ⌝ }
 {
     let kept = place.kept;
     let room = line.len() - kept;
@@ -38,7 +38,7 @@ pub fn keep(line: &mut [u8], place: Place, part: &[u8]) -> Place
 
 // The call that the kept bytes are. A line that was cut is too long, unless the cut is in its comment.
 pub fn call_of(line: &[u8], cut: bool) -> Call
-    ensures { λ r. ⌜ (r ≡ keptCall (now (line .entry)) cut) × Fits (length (now (line .entry))) r ⌝ }
+    ensures { λ r. ⌜ (r ≡ keptCall (now (line .entry)) cut) × CallReady (length (now (line .entry))) r ⌝ }
 {
     let end = line_word::before_comment(line);
     if end < line.len() {

@@ -2,15 +2,15 @@
 ghost use Prim.Native.Nat.{_+_, _/_, _<_, _≤_};
 ghost use lib.ListN.{length};
 ghost use Rattle.line.specs.Digits.{hexBytes};
-ghost use Rattle.line.specs.Line.{bytesMost, catalogueMost, indexMost, roomMost, Fits};
+ghost use Rattle.line.specs.Line.{bytesMost, catalogueMost, indexMost, roomMost};
+ghost use Rattle.line.specs.CallReady.{CallReady};
 ghost use Rattle.call.specs.Step.{sourcesOf, messageStep, openStep};
-ghost use Rattle.file.specs.Room.{answerMost};
-ghost use Rattle.file.specs.Served.{opened, replied, answerTo, Serves, lentOf, lentBy, Lends};
+ghost use Rattle.file.specs.Served.{answerMost, opened, replied, answerTo, Serves, lentOf, lentBy, Lends};
 use line::Call;
 
 // The catalogue that is lent from this line on. Answers its length.
 pub fn lend(call: Call, line: &[u8], catalogue: &mut [u8], lent: usize) -> usize
-    requires { ⌜ Fits (length (now line)) call × (lent ≤ catalogueMost) × (catalogueMost ≤ length (now catalogue)) ⌝ }
+    requires { ⌜ CallReady (length (now line)) call × (lent ≤ catalogueMost) × (catalogueMost ≤ length (now catalogue)) ⌝ }
     ensures { λ r. ⌜ Lends (lentBy call (now (line .entry)) (lentOf lent (now (catalogue .entry)))) r (now (catalogue .exit)) ⌝ }
 {
     match call {
@@ -102,7 +102,7 @@ pub fn serve(
     out: &mut [u8],
     used: usize,
 ) -> usize
-    requires { ⌜ Fits (length (now line)) call × (indexMost < length (now table)) × (used + answerMost ≤ length (now out)) ⌝ }
+    requires { ⌜ CallReady (length (now line)) call × (indexMost < length (now table)) × (used + answerMost ≤ length (now out)) ⌝ }
     ensures { λ r. ⌜ Serves (answerTo call (now (line .entry)) number (now (table .entry)) (now (catalogue .entry))) used r (now (table .exit)) (now (out .entry)) (now (out .exit)) ⌝ }
 {
     match call {

@@ -1,8 +1,8 @@
 // A file of recorded calls is read in chunks, each call is served, and the answers are written a buffer at a time.
 ghost use lib.ListN.{length};
-ghost use Rattle.file.specs.Room.{Sized};
+ghost use Rattle.file.specs.FileReady.{BuffersReady};
 ghost use Rattle.file.specs.Served.{LineServed};
-ghost use Rattle.line.specs.LineRoom.{Stands};
+ghost use Rattle.line.specs.PlaceReady.{PlaceReady};
 use line::Place;
 
 mod answers; // answers.rt: one call, served, and its answer
@@ -17,8 +17,8 @@ fn serve(
     catalogue: &mut [u8],
     out: &mut [u8],
 ) -> Place
-    requires { ⌜ Stands (length (now line)) place × Sized (length (now line)) (length (now table)) (length (now catalogue)) (length (now out)) ⌝ }
-    ensures { λ r. ⌜ LineServed (now (line .entry)) place (now (table .entry)) (now (catalogue .entry)) (now (out .entry)) r (now (table .exit)) (now (catalogue .exit)) (now (out .exit)) × Stands (length (now (line .entry))) r ⌝ }
+    requires { ⌜ PlaceReady (length (now line)) place × BuffersReady (length (now line)) (length (now table)) (length (now catalogue)) (length (now out)) ⌝ }
+    ensures { λ r. ⌜ LineServed (now (line .entry)) place (now (table .entry)) (now (catalogue .entry)) (now (out .entry)) r (now (table .exit)) (now (catalogue .exit)) (now (out .exit)) × PlaceReady (length (now (line .entry))) r ⌝ }
 {
     let kept = place.kept;
     let number = place.number;
@@ -53,8 +53,8 @@ fn serve_chunk(
     catalogue: &mut [u8],
     out: &mut [u8],
 ) -> Place
-    requires { ⌜ Stands (length (now line)) place × Sized (length (now line)) (length (now table)) (length (now catalogue)) (length (now out)) ⌝ }
-    ensures { λ r. ⌜ Stands (length (now (line .entry))) r ⌝ }
+    requires { ⌜ PlaceReady (length (now line)) place × BuffersReady (length (now line)) (length (now table)) (length (now catalogue)) (length (now out)) ⌝ }
+    ensures { λ r. ⌜ PlaceReady (length (now (line .entry))) r ⌝ }
 {
     let mut here = place;
     let mut at = 0;
@@ -82,7 +82,7 @@ fn serve_file(
     catalogue: &mut [u8],
     out: &mut [u8],
 )
-    requires { ⌜ Sized (length (now line)) (length (now table)) (length (now catalogue)) (length (now out)) ⌝ }
+    requires { ⌜ BuffersReady (length (now line)) (length (now table)) (length (now catalogue)) (length (now out)) ⌝ }
 {
     let mut place = Place {
         number: 1,

@@ -6,12 +6,12 @@ use native.Mathlib.Omega.{arith}
 use lib.ListN.{length, take, length-append, take-append-drop}
 use Rattle.line.specs.declared.Call.{Call}
 use Rattle.line.specs.declared.Call.the-variants as call
-use Rattle.line.specs.Line.{Fits}
+use Rattle.line.specs.CallReady.{CallReady}
 
 pub part-length : (k : ℕ) (s : List ℕ) → length (take k s) ≤ length s
 part-length k s = omega (arith, simp length-append at (ap length (take-append-drop k s)))
 
-pub fits-more : (m n : ℕ) (r : Call) → m ≤ n → Fits m r → Fits n r
+pub fits-more : (m n : ℕ) (r : Call) → m ≤ n → CallReady m r → CallReady n r
 fits-more m n call.Nothing h f = omega arith
 fits-more m n (call.Fault r) h f = omega arith
 fits-more m n (call.Catalogue a e) h f = (f .0, omega (arith, f .1), f .2)

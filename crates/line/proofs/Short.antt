@@ -10,8 +10,7 @@ use Rattle.line.specs.declared.Reason.the-variants.{UnknownCall, Missing
 use Rattle.line.specs.Text.{Put, decimalText, hexText, changed}
 use Rattle.line.proofs.Numeral.{numeral-short}
 use Rattle.line.proofs.TextLaws.{hex-short}
-use Rattle.line.specs.Answer.{space, feed, reasonText, errorText, connectText, openText, endText, messageText}
-use Rattle.line.specs.AnswerRoom.{plain}
+use Rattle.line.specs.Answer.{space, feed, reasonText, errorText, connectText, openText, endText, messageText, plain}
 
 -- the room that a word and a number leave
 pub room-after : (v room : ℕ) {s : List ℕ} {at m r : ℕ} {a b c : List ℕ} → Put s at m a b → Put (decimalText v) m r b c

@@ -51,3 +51,7 @@ unfoldable pub messageText : ℕ → ℕ → List ℕ → List ℕ
 messageText refusal count reply =
     (messageName ++ space)
     ++ (decimalText refusal ++ (space ++ (decimalText count ++ (space ++ (hexText (take count reply) ++ endText (changed (drop count reply)))))))
+
+-- the bytes of an answer without hex digits, at most
+abbrev pub plain : ℕ
+plain = 100

@@ -3,7 +3,7 @@ use mathlib.Core.Path.{_≡_}
 use mathlib.Core.Bool.{Bool}
 use mathlib.Core.List.{List}
 use Prim.Native.Nat.{ℕ, _+_, _-_}
-use lib.Dec.{ltb}
+use lib.Dec.{ltb, leb}
 use lib.ListN.{length, take}
 use Rattle.lists.specs.Below.{pick, either}
 use Rattle.wire.specs.Laid.{lay}
@@ -31,3 +31,11 @@ pub record Kept (line : List ℕ) (p : Place) (part : List ℕ) (r : Place) (exi
 abbrev pub keptCall : List ℕ → Bool → Call
 keptCall line cut =
     pick (ltb (run inCall line) (length line)) (callOf (take (run inCall line) line)) (pick cut (call.Fault TooLong) (callOf line))
+
+-- how much of the output may wait before a line
+abbrev pub outFull : ℕ
+outFull = 65536
+
+-- output is written where more than so much waits: how much waits then
+abbrev pub waits : ℕ → ℕ → ℕ
+waits most used = pick (leb used most) used 0

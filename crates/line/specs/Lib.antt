@@ -1,8 +1,8 @@
 pub mod Runs
 pub mod Text
 pub mod Digits
+pub mod CallReady
 pub mod Line
 pub mod Answer
-pub mod AnswerRoom
 pub mod Kept
-pub mod LineRoom
+pub mod PlaceReady

@@ -2,7 +2,7 @@
 -- that it is there, its form, its limit; and after the last, that no further word is there.
 use mathlib.Core.List.{List, [], _∷_}
 use mathlib.Core.Option.{Option, none, some}
-use Prim.Native.Nat.{ℕ, _-_, _/_, _≤_}
+use Prim.Native.Nat.{ℕ, _-_, _/_}
 use lib.Dec.{eqb, ltb}
 use lib.ListN.{length}
 use Rattle.lists.specs.Below.{pick}
@@ -129,21 +129,3 @@ callIn s start end = pick (eqb start end) call.Nothing (named (between start end
 -- "one call a line"; a line without words is none
 unfoldable pub callOf : List ℕ → Call
 callOf s = callIn s (wordStart s 0) (wordEnd s (wordStart s 0))
-
--- what every answer keeps to, in a line of so many bytes: places inside it, and numbers inside their limits
-abbrev pub numberEnds : ℕ → Number → Type 0
-numberEnds n (number.Fault r) = 0 ≤ n
-numberEnds n (number.Is v end) = end ≤ n
-
-abbrev pub hexEnds : ℕ → ℕ → Hex → Type 0
-hexEnds most n (hex.Fault r) = 0 ≤ n
-hexEnds most n (hex.Is first last end) = (first ≤ last) × (last ≤ end) × (end ≤ n) × ((last - first) / 2 ≤ most)
-
-abbrev pub Fits : ℕ → Call → Type 0
-Fits n call.Nothing = 0 ≤ n
-Fits n (call.Fault r) = 0 ≤ n
-Fits n (call.Catalogue first last) = (first ≤ last) × (last ≤ n) × ((last - first) / 2 ≤ catalogueMost)
-Fits n (call.Connect seat version) = 0 ≤ n
-Fits n (call.Open seat first last) = (first ≤ last) × (last ≤ n) × ((last - first) / 2 ≤ bytesMost)
-Fits n (call.Message seat room first last) = (room ≤ roomMost) × (first ≤ last) × (last ≤ n) × ((last - first) / 2 ≤ bytesMost)
-Fits n (call.Word index value) = index ≤ indexMost

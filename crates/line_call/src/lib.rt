@@ -2,7 +2,8 @@
 ghost use mathlib.Core.Path.{_≡_};
 ghost use Prim.Native.Nat.{_≤_};
 ghost use lib.ListN.{length};
-ghost use Rattle.line.specs.Line.{numberWord, hexWord, whole, catalogueFrom, connectFrom, openFrom, messageFrom, roomFrom, wordFrom, callOf, numberEnds, hexEnds, Fits};
+ghost use Rattle.line.specs.Line.{numberWord, hexWord, whole, catalogueFrom, connectFrom, openFrom, messageFrom, roomFrom, wordFrom, callOf};
+ghost use Rattle.line.specs.CallReady.{numberEnds, hexEnds, CallReady};
 use line::BYTES_MOST;
 use line::CATALOGUE_MOST;
 use line::Call;
@@ -53,8 +54,8 @@ fn hex_word(line: &[u8], at: usize, most: usize) -> Hex
 
 // A call after whose last word, which ends at a place, no further word stands.
 fn whole(line: &[u8], at: usize, call: Call) -> Call
-    requires { ⌜ (at ≤ length (now line)) × Fits (length (now line)) call ⌝ }
-    ensures { λ r. ⌜ (r ≡ whole (now (line .entry)) at call) × Fits (length (now (line .entry))) r ⌝ }
+    requires { ⌜ (at ≤ length (now line)) × CallReady (length (now line)) call ⌝ }
+    ensures { λ r. ⌜ (r ≡ whole (now (line .entry)) at call) × CallReady (length (now (line .entry))) r ⌝ }
 {
     if line_word::after_separators(line, at) < line.len() {
         return Call::Fault(Reason::ExtraWord);
@@ -64,7 +65,7 @@ fn whole(line: &[u8], at: usize, call: Call) -> Call
 
 fn catalogue(line: &[u8], at: usize) -> Call
     requires { ⌜ at ≤ length (now line) ⌝ }
-    ensures { λ r. ⌜ (r ≡ catalogueFrom (now (line .entry)) at) × Fits (length (now (line .entry))) r ⌝ }
+    ensures { λ r. ⌜ (r ≡ catalogueFrom (now (line .entry)) at) × CallReady (length (now (line .entry))) r ⌝ }
 {
     match hex_word(line, at, CATALOGUE_MOST) {
         Hex::Fault(reason) => Call::Fault(reason),
@@ -74,7 +75,7 @@ fn catalogue(line: &[u8], at: usize) -> Call
 
 fn connect(line: &[u8], at: usize) -> Call
     requires { ⌜ at ≤ length (now line) ⌝ }
-    ensures { λ r. ⌜ (r ≡ connectFrom (now (line .entry)) at) × Fits (length (now (line .entry))) r ⌝ }
+    ensures { λ r. ⌜ (r ≡ connectFrom (now (line .entry)) at) × CallReady (length (now (line .entry))) r ⌝ }
 {
     match number_word(line, at) {
         Number::Fault(reason) => Call::Fault(reason),
@@ -87,7 +88,7 @@ fn connect(line: &[u8], at: usize) -> Call
 
 fn open(line: &[u8], at: usize) -> Call
     requires { ⌜ at ≤ length (now line) ⌝ }
-    ensures { λ r. ⌜ (r ≡ openFrom (now (line .entry)) at) × Fits (length (now (line .entry))) r ⌝ }
+    ensures { λ r. ⌜ (r ≡ openFrom (now (line .entry)) at) × CallReady (length (now (line .entry))) r ⌝ }
 {
     match number_word(line, at) {
         Number::Fault(reason) => Call::Fault(reason),
@@ -100,7 +101,7 @@ fn open(line: &[u8], at: usize) -> Call
 
 fn message(line: &[u8], at: usize) -> Call
     requires { ⌜ at ≤ length (now line) ⌝ }
-    ensures { λ r. ⌜ (r ≡ messageFrom (now (line .entry)) at) × Fits (length (now (line .entry))) r ⌝ }
+    ensures { λ r. ⌜ (r ≡ messageFrom (now (line .entry)) at) × CallReady (length (now (line .entry))) r ⌝ }
 {
     match number_word(line, at) {
         Number::Fault(reason) => Call::Fault(reason),
@@ -111,7 +112,7 @@ fn message(line: &[u8], at: usize) -> Call
 // The room and the bytes of a message.
 fn message_from(line: &[u8], at: usize, seat: u32) -> Call
     requires { ⌜ at ≤ length (now line) ⌝ }
-    ensures { λ r. ⌜ (r ≡ roomFrom seat (now (line .entry)) at) × Fits (length (now (line .entry))) r ⌝ }
+    ensures { λ r. ⌜ (r ≡ roomFrom seat (now (line .entry)) at) × CallReady (length (now (line .entry))) r ⌝ }
 {
     match number_word(line, at) {
         Number::Fault(reason) => Call::Fault(reason),
@@ -133,7 +134,7 @@ fn message_from(line: &[u8], at: usize, seat: u32) -> Call
 
 fn word(line: &[u8], at: usize) -> Call
     requires { ⌜ at ≤ length (now line) ⌝ }
-    ensures { λ r. ⌜ (r ≡ wordFrom (now (line .entry)) at) × Fits (length (now (line .entry))) r ⌝ }
+    ensures { λ r. ⌜ (r ≡ wordFrom (now (line .entry)) at) × CallReady (length (now (line .entry))) r ⌝ }
 {
     match number_word(line, at) {
         Number::Fault(reason) => Call::Fault(reason),
@@ -151,7 +152,7 @@ fn word(line: &[u8], at: usize) -> Call
 
 // The call that a line is, its comment cut off.
 pub fn read(line: &[u8]) -> Call
-    ensures { λ r. ⌜ (r ≡ callOf (now (line .entry))) × Fits (length (now (line .entry))) r ⌝ }
+    ensures { λ r. ⌜ (r ≡ callOf (now (line .entry))) × CallReady (length (now (line .entry))) r ⌝ }
 {
     let start = line_word::after_separators(line, 0);
     let end = line_word::after_word(line, start);

@@ -16,7 +16,8 @@ use Rattle.table.specs.Fits.{CursorOk, SeatOk}
 use Rattle.table.proofs.Seats.{seat-back}
 use Rattle.refusal.specs.Refusal.{firstCause, statusOf}
 use Rattle.message.specs.Message.{msgOf, gateCauses, bodyCauses, bodyOf, seatCauses, refusedOn, doneOn, doneBy, seatMessage}
-use Rattle.message.specs.Answers.{Given, Admitted, Answers}
+use Rattle.message.specs.AnswerReady.{MessageReady, AdmittedReady}
+use Rattle.message.specs.AnswerTold.{Answers}
 use Rattle.message.specs.declared.Answered.{Answered}
 use Rattle.refusal.proofs.First.{Numbered, first-stop, first-go}
 
@@ -30,7 +31,7 @@ gate-numbered none m = ((λ e. omega arith), ((λ e. omega arith), tt))
 gate-numbered (some s) m = ((λ e. omega arith), ((λ e. omega arith), ((λ e. omega arith), tt)))
 
 -- words that pass are those of the seat that they hold
-pub words-is : (b m reply : List ℕ) → Given b m reply → b ≡ seatWords (seatOf b)
+pub words-is : (b m reply : List ℕ) → MessageReady b m reply → b ≡ seatWords (seatOf b)
 words-is b m reply g = seat-back b (g .size) (g .well) .0
 
 -- a refusal: the header, and nothing else
@@ -55,7 +56,7 @@ gate-refused rows b m n e z =
     rw (f, ne-eqb n 0 z)
 
 -- a message that was admitted
-module _ (b m reply : List ℕ) (msg kind : ℕ) (a : Admitted b m reply msg kind) where
+module _ (b m reply : List ℕ) (msg kind : ℕ) (a : AdmittedReady b m reply msg kind) where
   pub held : seatOf b ≡ some (seatIn b)
   held = rw (ne-eqb (getD b connectedAt 0) 0 (a .connected))
 

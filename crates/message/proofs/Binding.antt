@@ -16,11 +16,11 @@ use Rattle.catalogue.specs.Plain.{Row}
 use Rattle.bindings.specs.Column.{wordsOf}
 use Rattle.bindings.specs.Fit.{fit}
 use Rattle.bindings.specs.declared.Column.{Column}
-use Rattle.bindings.specs.Bindings.{Bindings, columnsOn, bindingsOn, widthAt, describedAt, countAt, columnsAt}
+use Rattle.bindings.specs.BindingsPlaces.{columnsOn, bindingsOn, widthAt, describedAt, countAt, columnsAt}
+use Rattle.bindings.specs.Plain.{Bindings, bindings}
 use Rattle.wire.specs.Header.{handleAt}
 use Rattle.lists.specs.Options.{andThen}
-use Rattle.bindings.specs.Plain.{bindings}
-use Rattle.bindings.specs.Told.{answer, wordsRead, Told}
+use Rattle.bindings.specs.BindingsTold.{answer, wordsRead, Told}
 use Rattle.bindings.specs.declared.BindingsRead.{BindingsRead}
 use Rattle.bindings.proofs.Agree.{bindings-agree}
 use Rattle.wire.specs.Laid.{lay, fourWords}
@@ -31,9 +31,11 @@ use Rattle.table.specs.Fits.{CursorOk}
 use Rattle.table.proofs.Seats.{cursor-words}
 use Rattle.table.proofs.Writes.{rebound-words}
 use Rattle.refusal.specs.Refusal.{firstCause}
-use Rattle.message.specs.Message.{handleOf, bodyCauses, boundTo, reboundAt, doneOn, seatMessage}
+use Rattle.message.specs.Message.{handleOf, bodyCauses, boundTo, doneOn, seatMessage}
+use Rattle.message.specs.MessagePlaces.{reboundAt}
 use Rattle.table.specs.Open.{isOpen}
-use Rattle.message.specs.Answers.{Admitted, Answers}
+use Rattle.message.specs.AnswerReady.{AdmittedReady}
+use Rattle.message.specs.AnswerTold.{Answers}
 use Rattle.message.proofs.Answering.{lay-front, seat-is, seat-fits, body-done}
 use Rattle.message.proofs.Bodies.{put-handle}
 
@@ -79,7 +81,7 @@ part-handle s handle c f g e =
         ∙ ap cursorWords (rw k at w))
         (λ k. absurd (none≢some (rw k at w)))
 
-module _ (b m reply : List ℕ) (msg : ℕ) (a : Admitted b m reply msg 3) (rows : List Row) where
+module _ (b m reply : List ℕ) (msg : ℕ) (a : AdmittedReady b m reply msg 3) (rows : List Row) where
   pub not-read : bindings m ≡ none → firstCause (bodyCauses rows 3 (seatIn b) m) ≡ 9
   unfolding firstCause
   not-read e = rw e

@@ -22,7 +22,8 @@ use Rattle.table.proofs.Writes.{first-put, second-put}
 use Rattle.refusal.specs.Refusal.{firstCause}
 use Rattle.message.specs.Message.{handleOf, freed, bodyCauses, doneOn, seatMessage}
 use Rattle.table.specs.Open.{isOpen, stillOpen}
-use Rattle.message.specs.Answers.{Admitted, Answers}
+use Rattle.message.specs.AnswerReady.{AdmittedReady}
+use Rattle.message.specs.AnswerTold.{Answers}
 use Rattle.message.proofs.Answering.{lay-front, seat-is, seat-fits, body-done}
 
 -- a cursor put under a handle is that of the seat with the cursor
@@ -55,7 +56,7 @@ lay-after t a b l =
         ∙ drop-drop (length b) 16 t
 
 -- disconnect
-module _ (b m reply : List ℕ) (msg : ℕ) (a : Admitted b m reply msg 0) (rows : List Row) where
+module _ (b m reply : List ℕ) (msg : ℕ) (a : AdmittedReady b m reply msg 0) (rows : List Row) where
   pub body-there : (length m ≡ 16 → ⊥) → firstCause (bodyCauses rows 0 (seatIn b) m) ≡ 9
   unfolding firstCause
   body-there e = rw (ne-eqb (length m) 16 e)
@@ -68,7 +69,7 @@ module _ (b m reply : List ℕ) (msg : ℕ) (a : Admitted b m reply msg 0) (rows
       rw o record { refused = refl; counted = refl; kept = z ∙ ap zeros (a .given .size); written = refl }
 
 -- free cursor
-module _ (b m reply : List ℕ) (msg : ℕ) (a : Admitted b m reply msg 1) (rows : List Row) where
+module _ (b m reply : List ℕ) (msg : ℕ) (a : AdmittedReady b m reply msg 1) (rows : List Row) where
   pub not-four : (length m ≡ 20 → ⊥) → firstCause (bodyCauses rows 1 (seatIn b) m) ≡ 9
   unfolding firstCause
   not-four e = rw (ne-eqb (length m) 20 e)

@@ -14,8 +14,7 @@ use Rattle.catalogue.specs.Plain.{Row}
 use Rattle.lists.specs.Every.{every}
 use Rattle.bindings.specs.Fit.{fit}
 use Rattle.bindings.specs.declared.Column.{Column}
-use Rattle.bindings.specs.Bindings.{Bindings}
-use Rattle.bindings.specs.Plain.{bindings}
+use Rattle.bindings.specs.Plain.{Bindings, bindings}
 use Rattle.table.specs.Seat.{Cursor, Seat, cursorIn, withCursor, rebound, moved}
 use Rattle.table.specs.Well.{tidy, cursorBelow, seatBelow}
 use Rattle.table.specs.Fits.{CursorFits, CursorOk, SeatOk}

@@ -3,7 +3,7 @@ use mathlib.Core.Path.{_≡_, sym, _∙_}
 use mathlib.Core.List.{List}
 use Prim.Native.Nat.{ℕ}
 use Rattle.message.specs.Message.{SeatOutcome}
-use Rattle.message.specs.Answers.{Answers}
+use Rattle.message.specs.AnswerTold.{Answers}
 use Rattle.message.specs.declared.Answered.{Answered}
 
 -- the same answer, the same words, the same bytes

@@ -22,12 +22,14 @@ use Rattle.fetch.specs.Request.{request}
 use Rattle.fetch.specs.declared.Request.{Request}
 use Rattle.fetch.proofs.Ranges.{request-sound, request-handle}
 use Rattle.fetch.specs.Fetch.{fetchCauses, fetchReply, fetched}
-use Rattle.fetch.specs.Ready.{FetchReady, Fetched}
+use Rattle.fetch.specs.FetchReady.{FetchReady}
+use Rattle.fetch.specs.FetchTold.{Fetched}
 use Rattle.fetch.proofs.Fetching.{reply-length, fetch-small}
 use Rattle.refusal.specs.Refusal.{firstCause, statusOf}
 use Rattle.message.specs.Message.{handleOf, bodyCauses, rowsDone, refusedOn, seatMessage}
 use Rattle.table.specs.Open.{isOpen}
-use Rattle.message.specs.Answers.{Admitted, Sourced, Answers}
+use Rattle.message.specs.AnswerReady.{AdmittedReady, SourcesReady}
+use Rattle.message.specs.AnswerTold.{Answers}
 use Rattle.message.specs.declared.Answered.{Answered}
 use Rattle.message.proofs.Answering.{held, words-is, seat-is, seat-fits, refused-answers, body-refused, body-done}
 use Rattle.table.proofs.Handles.{place-inside, put-is}
@@ -50,7 +52,7 @@ cursor-below n s handle c f e =
     (λ k. subst (λ (o : Option Cursor). cursorBelow n o ≡ true) (rw (q, k) at e) (both-right (cursorBelow n (s .first)) _ f))
     (λ k. absurd (none≢some (rw (q, k) at e))))
 
-module _ (b m reply : List ℕ) (msg : ℕ) (a : Admitted b m reply msg 2) (s places : List ℕ) (z : Sourced b s places) where
+module _ (b m reply : List ℕ) (msg : ℕ) (a : AdmittedReady b m reply msg 2) (s places : List ℕ) (z : SourcesReady b s places) where
   pub not-asked : request m ≡ none → firstCause (bodyCauses (rowsOf (catalogue s)) 2 (seatIn b) m) ≡ 9
   unfolding firstCause
   not-asked e = rw e

@@ -16,10 +16,8 @@ use Rattle.lists.specs.Every.{every}
 use Rattle.bindings.specs.declared.Value.{Value}
 use Rattle.bindings.specs.declared.Spot.{Spot}
 use Rattle.bindings.specs.declared.Column.{Column}
-use Rattle.bindings.specs.Bindings.{Bindings, before}
+use Rattle.bindings.specs.Plain.{Bindings, before, typeWidth, bytes, numeral, padded, flag, spot, value, property, column, columns, bindings}
 use Rattle.lists.specs.Options.{andThen}
-use Rattle.bindings.specs.Wire.{typeWidth}
-use Rattle.bindings.specs.Plain.{bytes, numeral, padded, flag, spot, value, property, column, columns, bindings}
 use Rattle.table.specs.Well.{flagged, tidy}
 
 -- a flag that was read is 0 or 1

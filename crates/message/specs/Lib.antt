@@ -1,2 +1,4 @@
+pub mod MessagePlaces
 pub mod Message
-pub mod Answers
+pub mod AnswerTold
+pub mod AnswerReady

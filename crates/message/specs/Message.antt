@@ -5,17 +5,14 @@ use mathlib.Core.List.{List, [], _∷_, _++_}
 use mathlib.Core.Option.{Option, none, some}
 use Prim.Native.Nat.{ℕ, zero, suc, _+_, _*_}
 use lib.Dec.{leb, ltb, eqb}
-use lib.ListN.{length, getD, set}
+use lib.ListN.{length, getD}
 use Rattle.lists.specs.Below.{pick, both}
 use Rattle.wire.specs.Word.{numberAt, le}
 use Rattle.wire.specs.Checksum.{checksum}
 use Rattle.catalogue.specs.Plain.{Row}
 use Rattle.bindings.specs.Fit.{fit}
-use Rattle.bindings.specs.Bindings.{Bindings}
-use Rattle.bindings.specs.Plain.{bindings}
+use Rattle.bindings.specs.Plain.{Bindings, bindings}
 use Rattle.wire.specs.Laid.{fourWords}
-use Rattle.table.specs.Layout.{cursorSize, cursorPlace, columnsAt, widthAt, recordsAt, recordsSize}
-use Rattle.lists.specs.Parts.{part, put}
 use Rattle.table.specs.Seat.{Cursor, Seat, cursorIn, withCursor, rebound}
 use Rattle.refusal.specs.Refusal.{firstCause, statusOf}
 use Rattle.fetch.specs.Request.{request}
@@ -123,12 +120,6 @@ abbrev pub boundTo : Seat → ℕ → Option Cursor → Option Bindings → Seat
 boundTo s handle none b = s
 boundTo s handle (some c) none = s
 boundTo s handle (some c) (some b) = withCursor s handle (some (rebound c (b .width) (b .columns)))
-
--- the words of a seat with other bindings in the cursor of a handle
-abbrev pub reboundAt : List ℕ → ℕ → List ℕ → ℕ → ℕ → List ℕ
-reboundAt b handle records count width =
-    put b (cursorPlace handle) cursorSize
-    (put (set (set (part b (cursorPlace handle) cursorSize) columnsAt count) widthAt width) recordsAt recordsSize records)
 
 -- a seat that rows were sent to: the reply, and the cursor moved (without a request or a cursor it is refused before)
 abbrev pub rowsDone : List Row → Seat → ℕ → Option Cursor → Option Request → SeatOutcome

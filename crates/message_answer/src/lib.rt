@@ -4,8 +4,10 @@ ghost use lib.ListN.{length};
 ghost use Rattle.catalogue.specs.Plain.{rowsIn};
 ghost use Rattle.table.specs.Layout.{seatSize, recordsSize};
 ghost use Rattle.table.specs.Seat.{seatOf};
-ghost use Rattle.message.specs.Message.{seatMessage, reboundAt};
-ghost use Rattle.message.specs.Answers.{Given, Admitted, Sourced, Answers, AnswersAny};
+ghost use Rattle.message.specs.Message.{seatMessage};
+ghost use Rattle.message.specs.MessagePlaces.{reboundAt};
+ghost use Rattle.message.specs.AnswerReady.{MessageReady, AdmittedReady, SourcesReady};
+ghost use Rattle.message.specs.AnswerTold.{Answers, AnswersAny};
 use fetch::Asking;
 use message::Answered;
 
@@ -21,7 +23,7 @@ fn rebind(seat: &mut [u32], handle: u32, records: &[u32], count: u32, width: u32
 
 // Set bindings: they replace the old, and the position stays.
 fn bind(seat: &mut [u32], message: &[u8], reply: &mut [u8], msg: u32) -> Answered
-    requires { ⌜ Admitted (now seat) (now message) (now reply) msg 3 ⌝ }
+    requires { ⌜ AdmittedReady (now seat) (now message) (now reply) msg 3 ⌝ }
     ensures { λ r. ⌜ AnswersAny (now (seat .entry)) (now (message .entry)) r (now (seat .exit)) (now (reply .entry)) (now (reply .exit)) ⌝ }
 {
     let mut records = [0u32; bindings::ROOM_WORDS];
@@ -56,7 +58,7 @@ fn fetch(
     reply: &mut [u8],
     msg: u32,
 ) -> Answered
-    requires { ⌜ Admitted (now seat) (now message) (now reply) msg 2 × Sourced (now seat) (now catalogue) (now places) ⌝ }
+    requires { ⌜ AdmittedReady (now seat) (now message) (now reply) msg 2 × SourcesReady (now seat) (now catalogue) (now places) ⌝ }
     ensures { λ r. ⌜ Answers (seatMessage (rowsIn (now (catalogue .entry))) (seatOf (now (seat .entry))) (now (message .entry))) r (now (seat .exit)) (now (reply .entry)) (now (reply .exit)) ⌝ }
 {
     let Asking::Asked(q) = fetch_request::read(message) else {
@@ -87,7 +89,7 @@ pub fn answer(
     places: &[u32],
     reply: &mut [u8],
 ) -> Answered
-    requires { ⌜ Given (now seat) (now message) (now reply) × Sourced (now seat) (now catalogue) (now places) ⌝ }
+    requires { ⌜ MessageReady (now seat) (now message) (now reply) × SourcesReady (now seat) (now catalogue) (now places) ⌝ }
     ensures { λ r. ⌜ Answers (seatMessage (rowsIn (now (catalogue .entry))) (seatOf (now (seat .entry))) (now (message .entry))) r (now (seat .exit)) (now (reply .entry)) (now (reply .exit)) ⌝ }
 {
     let msg = wire_word::word(message, 0);

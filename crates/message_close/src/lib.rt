@@ -5,7 +5,8 @@ ghost use lib.ListN.{length};
 ghost use Rattle.table.specs.Layout.{seatSize, cursorSize, cursorPlace};
 ghost use Rattle.lists.specs.Parts.{put};
 ghost use Rattle.table.specs.Seat.{cursorWords};
-ghost use Rattle.message.specs.Answers.{Admitted, AnswersAny};
+ghost use Rattle.message.specs.AnswerReady.{AdmittedReady};
+ghost use Rattle.message.specs.AnswerTold.{AnswersAny};
 use message::Answered;
 
 // The header and one word: a message that frees a cursor, and its reply.
@@ -23,7 +24,7 @@ fn close(seat: &mut [u32], handle: u32)
 
 // Disconnect: both cursors are closed, and the seat is left unconnected.
 pub fn disconnect(seat: &mut [u32], message: &[u8], reply: &mut [u8], msg: u32) -> Answered
-    requires { ⌜ Admitted (now seat) (now message) (now reply) msg 0 ⌝ }
+    requires { ⌜ AdmittedReady (now seat) (now message) (now reply) msg 0 ⌝ }
     ensures { λ r. ⌜ AnswersAny (now (seat .entry)) (now (message .entry)) r (now (seat .exit)) (now (reply .entry)) (now (reply .exit)) ⌝ }
 {
     if message.len() != wire::HEADER_SIZE {
@@ -38,7 +39,7 @@ pub fn disconnect(seat: &mut [u32], message: &[u8], reply: &mut [u8], msg: u32) 
 
 // Free cursor: the reply counts the cursors still open.
 pub fn free(seat: &mut [u32], message: &[u8], reply: &mut [u8], msg: u32) -> Answered
-    requires { ⌜ Admitted (now seat) (now message) (now reply) msg 1 ⌝ }
+    requires { ⌜ AdmittedReady (now seat) (now message) (now reply) msg 1 ⌝ }
     ensures { λ r. ⌜ AnswersAny (now (seat .entry)) (now (message .entry)) r (now (seat .exit)) (now (reply .entry)) (now (reply .exit)) ⌝ }
 {
     if message.len() != FREE_SIZE {

@@ -5,21 +5,23 @@ use Prim.Native.Nat.{ℕ, _+_, _^_, _<_}
 use lib.ListN.{length}
 use Rattle.lists.specs.Below.{pick}
 use Rattle.wire.specs.Word.{le}
-use Rattle.catalogue.specs.Places.{rowOf}
+use Rattle.catalogue.specs.CataloguePlaces.{rowOf}
 use Rattle.catalogue.specs.declared.Fields.{Fields}
 use Rattle.wire.specs.Property.{lengthSize}
 use Rattle.bindings.specs.Fit.{isUsed}
 use Rattle.bindings.specs.declared.Column.{Column}
 use Rattle.wire.specs.Laid.{lays}
-use Rattle.page.specs.Field.{fieldOf, fieldAt, fieldSeen}
-use Rattle.page.specs.Cell.{statusOf, lengthOf, kindOf, contentOf, cellBytes, cellOf, offsetWidth, laidIf, blockSpan, blockSize, blockRoom, fieldSpans, columnSpans}
-use Rattle.page.specs.Stands.{FieldsStand, FieldStands}
+use Rattle.page.specs.Field.{fieldOf}
+use Rattle.page.specs.FieldPlaces.{fieldAt, fieldSeen, cellBytes}
+use Rattle.page.specs.Cell.{statusOf, lengthOf, kindOf, contentOf, cellOf, offsetWidth, laidIf, blockSpan, blockSize, blockRoom, fieldSpans, columnSpans}
+use Rattle.page.specs.FieldReady.{FieldReady}
+use Rattle.catalogue.specs.CatalogueReady.{FieldsReady}
 use Rattle.page.specs.declared.FieldAt.{FieldAt}
 use Rattle.page.proofs.Fields.{field-seen, field-stands, cell-same, lays-four}
 
 -- the field of the column as the code found it
-module _ (s : List ℕ) (f : Fields) (c : Column) (found : FieldAt) (stand : FieldsStand s f) (is : found ≡ fieldAt (c .property) f) where
-  pub found-stands : FieldStands s found
+module _ (s : List ℕ) (f : Fields) (c : Column) (found : FieldAt) (stand : FieldsReady s f) (is : found ≡ fieldAt (c .property) f) where
+  pub found-stands : FieldReady s found
   found-stands = rw is (field-stands s (c .property) f stand)
 
   pub found-is : fieldSeen s found ≡ fieldOf (c .property) (rowOf s f)

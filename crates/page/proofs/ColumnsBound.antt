@@ -12,11 +12,11 @@ use Rattle.bindings.specs.Fit.{fit}
 use Rattle.bindings.specs.declared.Column.{Column}
 use Rattle.bindings.proofs.Columns.{from-length}
 use Rattle.bindings.proofs.Sound.{fit-sound}
-use Rattle.page.specs.Stands.{ColumnIn}
-use Rattle.page.specs.RowReady.{ColumnsIn}
+use Rattle.page.specs.FieldReady.{SpansReady}
+use Rattle.page.specs.RowReady.{AllSpansReady}
 use Rattle.page.proofs.Parts.{Good, good, First, first}
 
-in-row : (width : ℕ) (c : Column) (s : List Column) → First width c s → ColumnIn width 0 c
+in-row : (width : ℕ) (c : Column) (s : List Column) → First width c s → SpansReady width 0 c
 in-row width c s f =
     record {
       typed = f .typed;
@@ -26,13 +26,13 @@ in-row width c s f =
     }
 
 -- the j-th of n columns from the k-th on
-column-in-row : (width n k j : ℕ) (words : List ℕ) → Good width (columnsFrom n k words) → j < n → ColumnIn width 0 (columnAt words (k + j))
+column-in-row : (width n k j : ℕ) (words : List ℕ) → Good width (columnsFrom n k words) → j < n → SpansReady width 0 (columnAt words (k + j))
 unfolding columnsFrom
 column-in-row width zero k j words g h = absurd (not-suc-le-zero h)
 column-in-row width (suc n) k zero words g h =
     rw (add-zero k) (in-row width (columnAt words k) (columnsFrom n (k + 1) words) (first width (columnAt words k) (columnsFrom n (k + 1) words) g))
 column-in-row width (suc n) k (suc j) words g h =
-    subst (λ (i : ℕ). ColumnIn width 0 (columnAt words i)) next
+    subst (λ (i : ℕ). SpansReady width 0 (columnAt words i)) next
     (column-in-row width n (k + 1) j words (first width (columnAt words k) (columnsFrom n (k + 1) words) g .others) (le-of-suc-le-suc h))
   where
     next : k + 1 + j ≡ k + suc j
@@ -42,9 +42,9 @@ module _ (width bound : ℕ) (words : List ℕ) (fits : fit width (columnsOf bou
   pub bound-few : bound ≤ columnsMost
   bound-few = omega (arith, fit-sound width (columnsOf bound words) fits .count .1, from-length bound 0 words)
 
-  pub bound-in : ColumnsIn width 0 words bound
+  pub bound-in : AllSpansReady width 0 words bound
   bound-in k h =
-      subst (λ (i : ℕ). ColumnIn width 0 (columnAt words i)) here (column-in-row width bound 0 k words (good width (columnsOf bound words) fits) h)
+      subst (λ (i : ℕ). SpansReady width 0 (columnAt words i)) here (column-in-row width bound 0 k words (good width (columnsOf bound words) fits) h)
     where
       here : 0 + k ≡ k
       here = omega arith

@@ -10,21 +10,22 @@ use Rattle.lists.specs.Below.{pick, both}
 use Rattle.wire.specs.Word.{le, halves}
 use Rattle.lists.proofs.Below.{by-test}
 use Rattle.catalogue.specs.Limits.{sizeMost}
-use Rattle.catalogue.specs.Places.{unitsPart, textOf, rowOf, rowAt, rowSeen, withRow}
+use Rattle.catalogue.specs.CataloguePlaces.{unitsPart, textOf, rowOf, rowAt, rowSeen, withRow, noFields, fieldsSeen}
 use Rattle.catalogue.specs.declared.Text.{Text}
 use Rattle.catalogue.specs.declared.Fields.{Fields}
 use Rattle.catalogue.specs.declared.RowAt.{RowAt}
 use Rattle.catalogue.specs.declared.RowAt.the-variants.{RowTo, NoRow}
-use Rattle.catalogue.proofs.RowLaws.{row-read, TextRead}
+use Rattle.catalogue.proofs.RowLaws.{row-ready}
 use Rattle.wire.specs.Property.{isNumber, variantType, variantSize, numberType, numberSize, cellSize}
 use Rattle.bindings.specs.Fit.{isUsed}
 use Rattle.bindings.specs.declared.Column.{Column}
 use Rattle.wire.specs.Laid.{lay, lays, Laid}
 use Rattle.wire.proofs.Lays.{lays-join}
-use Rattle.page.specs.Field.{Field, number, textField, byProperty, fieldOf, textFieldAt, fieldAt, fieldSeen}
-use Rattle.page.specs.Cell.{variant, variantOf, kindOf, contentOf, cellOf, cellBytes, textType, offsetWidth, laidIf, blockSpan, blockSize, textSize}
-use Rattle.page.specs.Stands.{TextStands, FieldsStand, FieldStands, FieldSmall, FieldsSmall, ColumnIn}
-use Rattle.catalogue.specs.Seen.{noFields, fieldsSeen}
+use Rattle.page.specs.Field.{Field, number, textField, byProperty, fieldOf}
+use Rattle.page.specs.FieldPlaces.{textFieldAt, fieldAt, fieldSeen, cellBytes}
+use Rattle.page.specs.Cell.{variant, variantOf, kindOf, contentOf, cellOf, textType, offsetWidth, laidIf, blockSpan, blockSize, textSize}
+use Rattle.page.specs.FieldReady.{FieldReady, SizeReady, SizesReady, SpansReady}
+use Rattle.catalogue.specs.CatalogueReady.{FieldsReady, UnitsReady}
 use Rattle.page.specs.declared.FieldAt.{FieldAt}
 use Rattle.page.specs.declared.FieldAt.the-variants.{NumberIs, TextIs, Absent}
 use Rattle.page.proofs.Little.{le-more}
@@ -49,49 +50,38 @@ field-seen s property f =
     (by-test (eqb property 4) (λ t. rw t) (λ t. rw t
     (by-test (eqb property 5) (λ u. rw u (text-seen s (f .label))) (λ u. rw u (text-seen s (f .note)))))))))
 
-text-stands : (s : List ℕ) (t : Text) → TextStands s t → FieldStands s (textFieldAt t)
+text-stands : (s : List ℕ) (t : Text) → UnitsReady s t → FieldReady s (textFieldAt t)
 text-stands s t h = by-test (eqb (t .size) 0) (λ q. rw q tt) (λ q. rw q (h, omega (arith, eqb-false (t .size) 0 q)))
 
-pub field-stands : (s : List ℕ) (property : ℕ) (f : Fields) → FieldsStand s f → FieldStands s (fieldAt property f)
+pub field-stands : (s : List ℕ) (property : ℕ) (f : Fields) → FieldsReady s f → FieldReady s (fieldAt property f)
 field-stands s property f h =
-    by-property (FieldStands s) property (NumberIs (f .key)) (NumberIs (f .language)) (NumberIs (f .default)) (textFieldAt (f .label)) (textFieldAt (f .note))
+    by-property (FieldReady s) property (NumberIs (f .key)) (NumberIs (f .language)) (NumberIs (f .default)) (textFieldAt (f .label)) (textFieldAt (f .note))
     (omega (arith, h .key))
     (omega (arith, h .language))
     (omega (arith, h .default))
     (text-stands s (f .label) (h .label))
     (text-stands s (f .note) (h .note))
 
-text-small : (t : Text) → t .size ≤ sizeMost → FieldSmall (textFieldAt t)
+text-small : (t : Text) → t .size ≤ sizeMost → SizeReady (textFieldAt t)
 text-small t h = by-test (eqb (t .size) 0) (λ q. rw q tt) (λ q. rw q h)
 
-pub field-small : (property : ℕ) (f : Fields) → FieldsSmall f → FieldSmall (fieldAt property f)
+pub field-small : (property : ℕ) (f : Fields) → SizesReady f → SizeReady (fieldAt property f)
 field-small property f h =
-    by-property FieldSmall property (NumberIs (f .key)) (NumberIs (f .language)) (NumberIs (f .default)) (textFieldAt (f .label)) (textFieldAt (f .note))
+    by-property SizeReady property (NumberIs (f .key)) (NumberIs (f .language)) (NumberIs (f .default)) (textFieldAt (f .label)) (textFieldAt (f .note))
     tt tt tt
     (text-small (f .label) (h .0))
     (text-small (f .note) (h .1))
 
 -- the fields found at a place stand in the bytes, and are those of the row seen there
-read-stands : (s : List ℕ) (at : ℕ) (t : Text) (next : ℕ) → TextRead s at t next → TextStands s t
-read-stands s at t next h = record { small = h .small; inside = omega (arith, h .ends, h .inside) }
-
-pub seen-stand : (s : List ℕ) (at : ℕ) → FieldsStand s (fieldsSeen s at)
+pub seen-stand : (s : List ℕ) (at : ℕ) → FieldsReady s (fieldsSeen s at)
 seen-stand s at = go (rowAt s at) refl
   where
-    empty : TextStands s (record { size = 0; start = 0 })
+    empty : UnitsReady s (record { size = 0; start = 0 })
     empty = record { small = omega arith; inside = omega arith }
 
-    go : (r : RowAt) → rowAt s at ≡ r → FieldsStand s (withRow r noFields (λ f next. f))
+    go : (r : RowAt) → rowAt s at ≡ r → FieldsReady s (withRow r noFields (λ f next. f))
     go NoRow e = record { key = omega arith; language = omega arith; default = omega arith; label = empty; note = empty }
-    go (RowTo f next) e =
-        let r = row-read s at f next e in
-        record {
-          key = r .key;
-          language = r .language;
-          default = r .default;
-          label = read-stands s (r .labelAt) (f .label) (r .labelNext) (r .label);
-          note = read-stands s (r .labelNext) (f .note) next (r .note);
-        }
+    go (RowTo f next) e = row-ready s at f next e
 
 pub seen-row : (s : List ℕ) (at : ℕ) → rowOf s (fieldsSeen s at) ≡ rowSeen s at
 seen-row s at = go (rowAt s at)
@@ -101,7 +91,7 @@ seen-row s at = go (rowAt s at)
     go NoRow = refl
     go (RowTo f next) = refl
 
-pub stand-small : (s : List ℕ) (f : Fields) → FieldsStand s f → FieldsSmall f
+pub stand-small : (s : List ℕ) (f : Fields) → FieldsReady s f → SizesReady f
 stand-small s f h = (h .label .small, h .note .small)
 
 -- a cell by its type and number is a cell of two bytes of type and so many of number
@@ -113,13 +103,13 @@ variant-same type width v t h w =
     number : le 8 v ≡ le width v ++ replicate (8 - width) 0
     number = ap (λ (n : ℕ). le n v) (omega arith) ∙ le-more width (8 - width) v h
 
-pub cell-same : (s : List ℕ) (property type offset : ℕ) (f : FieldAt) → FieldStands s f → offset < 256 ^ offsetWidth
+pub cell-same : (s : List ℕ) (property type offset : ℕ) (f : FieldAt) → FieldReady s f → offset < 256 ^ offsetWidth
     → cellBytes property type (kindOf property (fieldSeen s f)) (contentOf offset (fieldSeen s f)) ≡ cellOf property type offset (fieldSeen s f)
 unfolding le
 cell-same s property type offset f h o =
     by-test (eqb type variantType) (λ q. rw q (go f h)) (λ q. rw q)
   where
-    go : (f : FieldAt) → FieldStands s f → le 8 (kindOf property (fieldSeen s f)) ++ le 8 (contentOf offset (fieldSeen s f)) ≡ variantOf property offset (fieldSeen s f)
+    go : (f : FieldAt) → FieldReady s f → le 8 (kindOf property (fieldSeen s f)) ++ le 8 (contentOf offset (fieldSeen s f)) ≡ variantOf property offset (fieldSeen s f)
     go (NumberIs v) h = variant-same (numberType property) 4 v (omega arith) (omega arith) (omega arith)
     go (TextIs t) h = variant-same textType offsetWidth offset (omega arith) o (omega arith)
     go Absent h = refl
@@ -129,8 +119,8 @@ pub lays-four : (t : List ℕ) (a b d e : List Laid) → lays (lays (lays (lays 
 lays-four t a b d e = sym (lays-join t a (b ++ (d ++ e)) ∙ lays-join (lays t a) b (d ++ e) ∙ lays-join (lays (lays t a) b) d e)
 
 -- a column lies in a list of the same length too
-pub still-in : (m n row : ℕ) (c : Column) → m ≡ n → ColumnIn m row c → ColumnIn n row c
-still-in m n row c e h = subst (λ (k : ℕ). ColumnIn k row c) e h
+pub still-in : (m n row : ℕ) (c : Column) → m ≡ n → SpansReady m row c → SpansReady n row c
+still-in m n row c e h = subst (λ (k : ℕ). SpansReady k row c) e h
 
 -- what is laid where a flag says used, and where not
 pub laid-unused : (t : List ℕ) (flag : ℕ) (s : List Laid) → (flag ≡ 1 → ⊥) → t ≡ lays t (pick (isUsed flag) s [])
@@ -146,10 +136,10 @@ pub block-laid : (t u : List ℕ) (flag place : ℕ) (f : Field) → flag ≡ 1 
 block-laid t u flag place f e h = rw (eq-eqb flag 1 e) h
 
 -- what a text's block wants of the reply, where the block is to be laid
-pub block-fits : (n place used : ℕ) (s : List ℕ) (f : FieldAt) (t : Text) → used ≡ 1 → f ≡ TextIs t → FieldStands s f
-    → place + pick (isUsed used) (blockSize (fieldSeen s f)) 0 ≤ n → TextStands s t × (0 < t .size) × (place + 2 * t .size ≤ n)
+pub block-fits : (n place used : ℕ) (s : List ℕ) (f : FieldAt) (t : Text) → used ≡ 1 → f ≡ TextIs t → FieldReady s f
+    → place + pick (isUsed used) (blockSize (fieldSeen s f)) 0 ≤ n → UnitsReady s t × (0 < t .size) × (place + 2 * t .size ≤ n)
 block-fits n place used s f t u e h fits =
-    let k : FieldStands s (TextIs t) = rw e at h in
+    let k : FieldReady s (TextIs t) = rw e at h in
     let l : place + textSize (halves (unitsPart s t)) ≤ n = rw (eq-eqb used 1 u, e) at fits in
     (k .0, k .1, omega (arith, units-double s t (k .0) (k .1)))
 

@@ -9,11 +9,12 @@ use borrow.Author.Tests.{le-leb, lt-leb}
 use lib.ListN.{length, getD, take, drop, drop-of-length-le}
 use lib.Seq.{drop-cons}
 use Rattle.catalogue.specs.Plain.{Row}
-use Rattle.catalogue.specs.Places.{rowSeen}
+use Rattle.catalogue.specs.CataloguePlaces.{rowSeen}
 use Rattle.bindings.specs.declared.Column.{Column}
 use Rattle.wire.specs.Laid.{lays}
 use Rattle.wire.proofs.Lays.{lays-join}
-use Rattle.page.specs.Rows.{rowsAt, blocks, allBlocks, returned, rowSpans, rowsSpans}
+use Rattle.page.specs.Rows.{blocks, allBlocks, returned, rowSpans, rowsSpans}
+use Rattle.page.specs.RowPlaces.{rowsAt}
 use Rattle.page.specs.RowReady.{needed}
 
 -- the rows from an index on: one and then the others, or none

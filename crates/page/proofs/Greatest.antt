@@ -11,9 +11,10 @@ use lib.ListN.{length, getD, take, length-map}
 use lib.Seq.{length-take-le}
 use Rattle.lists.proofs.Below.{by-test}
 use Rattle.catalogue.specs.Plain.{Row}
-use Rattle.catalogue.specs.Places.{rowSeen}
+use Rattle.catalogue.specs.CataloguePlaces.{rowSeen}
 use Rattle.bindings.specs.declared.Column.{Column}
-use Rattle.page.specs.Rows.{rowsAt, blocks, allBlocks, Fits, returned}
+use Rattle.page.specs.Rows.{blocks, allBlocks, Fits, returned}
+use Rattle.page.specs.RowPlaces.{rowsAt}
 use Rattle.page.specs.RowReady.{needed}
 use Rattle.page.proofs.FillSteps.{needs-are, returned-full, returned-more}
 

@@ -6,16 +6,16 @@ use Prim.Native.Nat.{ℕ, _+_, _*_, _^_, _≤_, _<_}
 use native.Mathlib.Omega.{arith}
 use lib.ListN.{length}
 use Rattle.wire.specs.Word.{le, numberAt}
-use Rattle.catalogue.specs.Places.{rowSeen}
+use Rattle.catalogue.specs.CataloguePlaces.{rowSeen, fieldsSeen}
 use Rattle.catalogue.specs.Plain.{Row}
 use Rattle.bindings.specs.Fit.{fit}
 use Rattle.bindings.specs.declared.Column.{Column}
 use Rattle.lists.specs.Each.{Each}
 use Rattle.wire.specs.Laid.{fourWords}
 use Rattle.lists.specs.Parts.{part}
-use Rattle.page.specs.Field.{fieldOf, fieldAt, fieldSeen}
-use Rattle.page.specs.Stands.{FieldStands}
-use Rattle.catalogue.specs.Seen.{fieldsSeen}
+use Rattle.page.specs.Field.{fieldOf}
+use Rattle.page.specs.FieldPlaces.{fieldAt, fieldSeen}
+use Rattle.page.specs.FieldReady.{FieldReady}
 use Rattle.page.specs.declared.FieldAt.{FieldAt}
 use Rattle.page.specs.declared.FieldAt.the-variants.{NumberIs, TextIs, Absent}
 use Rattle.page.proofs.Fields.{field-seen, field-stands, seen-stand, seen-row}
@@ -27,7 +27,7 @@ use Rattle.page.specs.Reads.{Held, HeadReads}
 use Rattle.page.proofs.Inner.{first-word, other-words}
 use Rattle.page.proofs.Reply.{page-reads}
 
-held-at : (s : List ℕ) (f : FieldAt) → FieldStands s f → Held (fieldSeen s f)
+held-at : (s : List ℕ) (f : FieldAt) → FieldReady s f → Held (fieldSeen s f)
 held-at s (NumberIs v) h = omega arith
 held-at s (TextIs t) h = omega (arith, units-double s t (h .0) (h .1), h .0 .small)
 held-at s Absent h = tt

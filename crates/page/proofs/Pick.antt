@@ -7,7 +7,7 @@ use native.Mathlib.Omega.{arith}
 use borrow.Author.Tests.{eq-eqb}
 use lib.ListN.{length, take}
 use Rattle.lists.specs.Below.{pick}
-use Rattle.catalogue.specs.Plain.{Row}
+use Rattle.catalogue.specs.Plain.{Row, rowIn}
 use Rattle.bindings.specs.Fit.{isUsed}
 use Rattle.bindings.specs.Sound.{column}
 use Rattle.bindings.specs.declared.Column.{Column}
@@ -16,7 +16,7 @@ use Rattle.wire.specs.Laid.{Laid}
 use Rattle.page.specs.Field.{text, fieldOf}
 use Rattle.page.specs.Cell.{blockSpan, blockRoom, columnSpans}
 use Rattle.page.specs.Rows.{blocks, allBlocks, rowSpans, rowsSpans}
-use Rattle.page.specs.Reads.{rowIn, rowPlace, blockPlace}
+use Rattle.page.specs.Reads.{rowPlace, blockPlace}
 use Rattle.page.proofs.Spans.{blockAt, cellAt, statusAt, lengthAt, cellSpans, OfCells}
 
 module _ (P : Laid → Type 0) where

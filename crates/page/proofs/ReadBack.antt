@@ -11,7 +11,7 @@ use lib.ListN.{length, getD, drop, replicate, length-append}
 use lib.Seq.{getD-take, getD-drop}
 use Rattle.wire.specs.Word.{le, numberAt}
 use Rattle.lists.proofs.Below.{by-test}
-use Rattle.catalogue.specs.Plain.{Row}
+use Rattle.catalogue.specs.Plain.{Row, rowIn}
 use Rattle.wire.specs.Property.{variantType, lengthSize}
 use Rattle.bindings.specs.Fit.{fit}
 use Rattle.bindings.specs.Sound.{column}
@@ -25,7 +25,7 @@ use Rattle.page.specs.Cell.{offsetWidth, lengthOf, kindOf, contentOf, va
 use Rattle.page.proofs.Units.{block-length}
 use Rattle.page.specs.Rows.{allBlocks, rowsSpans}
 use Rattle.page.specs.Page.{headSpans, page}
-use Rattle.page.specs.Reads.{rowIn, rowPlace, blockPlace, Held, numberPlace, Reads}
+use Rattle.page.specs.Reads.{rowPlace, blockPlace, Held, numberPlace, Reads}
 use Rattle.page.proofs.Inner.{inner-number}
 use Rattle.page.proofs.Pick.{each-right, of-block, of-cells, of-reply}
 use Rattle.page.proofs.Reply.{page-reads}

@@ -11,13 +11,13 @@ use Rattle.wire.specs.Word.{Bytes, halves, le}
 use Rattle.lists.proofs.Below.{by-test}
 use Rattle.wire.proofs.Halves.{halves-length}
 use Rattle.catalogue.specs.Writer.{unitBytes}
-use Rattle.catalogue.specs.Places.{unitBytesOf, unitsPart}
+use Rattle.catalogue.specs.CataloguePlaces.{unitBytesOf, unitsPart}
 use Rattle.catalogue.specs.declared.Text.{Text}
 use Rattle.catalogue.proofs.RoundTrip.{written-halves}
 use Rattle.wire.specs.Laid.{lay}
 use Rattle.wire.proofs.Lay.{lay-join}
 use Rattle.page.specs.Cell.{blockOf, textSize}
-use Rattle.page.specs.Stands.{TextStands}
+use Rattle.catalogue.specs.CatalogueReady.{UnitsReady}
 
 pub unit-bytes-length : (units : List ℕ) → length (unitBytes units) ≡ 2 * length units
 unfolding unitBytes le
@@ -34,7 +34,7 @@ bytes-part n at s bytes i =
     (λ q. rw (getD-take n (drop at s) i 0 (ltb-true i n q), getD-drop at s i 0) (bytes (at + i)))
     (λ q. rw (List·getD-eq-default (take n (drop at s)) 0 {n = i} (omega (arith, ltb-false i n q, length-take n (drop at s)))) (omega arith))
 
-module _ (s : List ℕ) (x : Text) (stands : TextStands s x) where
+module _ (s : List ℕ) (x : Text) (stands : UnitsReady s x) where
   pub units-length : length (unitsPart s x) ≡ unitBytesOf (x .size)
   units-length = length-take-le (unitBytesOf (x .size)) (drop (x .start) s) (omega (arith, length-drop (x .start) s, stands .inside))
 

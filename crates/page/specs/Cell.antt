@@ -62,10 +62,6 @@ abbrev pub cellOf : ℕ → ℕ → ℕ → Field → List ℕ
 cellOf property type offset f =
     pick (eqb type variantType) (variantOf property offset f) (le (numberSize property) (contentOf offset f))
 
--- the same cell by its type and its number, in all of its bytes: what the code lays
-abbrev pub cellBytes : ℕ → ℕ → ℕ → ℕ → List ℕ
-cellBytes property type kind v = pick (eqb type variantType) (le 8 kind ++ le 8 v) (le (numberSize property) v)
-
 -- "Each label or note that is present and bound with its value used has a block: its units and one zero unit"
 abbrev pub blockOf : List ℕ → List ℕ
 blockOf units = unitBytes units ++ (0 ∷ 0 ∷ [])

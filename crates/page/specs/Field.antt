@@ -4,14 +4,8 @@ use mathlib.Core.Option.{Option, none, some}
 use Prim.Native.Nat.{ℕ}
 use lib.Dec.{eqb}
 use Rattle.lists.specs.Below.{pick}
-use Rattle.wire.specs.Word.{halves}
 use Rattle.catalogue.specs.Plain.{Row}
-use Rattle.catalogue.specs.Places.{unitsPart}
-use Rattle.catalogue.specs.declared.Text.{Text}
-use Rattle.catalogue.specs.declared.Fields.{Fields}
 use Rattle.wire.specs.Property.{keyProperty, languageProperty, defaultProperty, labelProperty}
-use Rattle.page.specs.declared.FieldAt.{FieldAt}
-use Rattle.page.specs.declared.FieldAt.the-variants.{NumberIs, TextIs, Absent}
 
 -- a number; a text that is present, by its units; or a text that is absent
 pub data Field : Type 0 where
@@ -35,17 +29,3 @@ byProperty property key language default label note =
 abbrev pub fieldOf : ℕ → Row → Field
 fieldOf property r =
     byProperty property (number (r .key)) (number (r .language)) (number (r .default)) (textField (r .label)) (textField (r .note))
-
--- the same by places: what the code follows
-abbrev pub textFieldAt : Text → FieldAt
-textFieldAt t = pick (eqb (t .size) 0) Absent (TextIs t)
-
-abbrev pub fieldAt : ℕ → Fields → FieldAt
-fieldAt property f =
-    byProperty property (NumberIs (f .key)) (NumberIs (f .language)) (NumberIs (f .default)) (textFieldAt (f .label)) (textFieldAt (f .note))
-
--- a field by its place is this field of the catalogue's bytes
-abbrev pub fieldSeen : List ℕ → FieldAt → Field
-fieldSeen s (NumberIs v) = number v
-fieldSeen s (TextIs t) = text (halves (unitsPart s t))
-fieldSeen s Absent = absent

@@ -1,8 +1,11 @@
+pub mod FieldPlaces
 pub mod Field
 pub mod Cell
-pub mod Stands
+pub mod FieldReady
+pub mod RowPlaces
 pub mod Rows
 pub mod RowReady
 pub mod Page
 pub mod PageReady
 pub mod Reads
+pub mod Examples

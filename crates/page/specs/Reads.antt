@@ -1,13 +1,12 @@
 -- What a client reads of a column in a row of a reply: each status, length, number and text at its bound place.
 use mathlib.Core.Path.{_≡_}
 use mathlib.Core.List.{List}
-use mathlib.Core.Option.{none}
 use Prim.Native.Nat.{ℕ, suc, _+_, _-_, _*_, _^_, _<_}
 use lib.Dec.{eqb}
 use lib.ListN.{length, getD, take}
 use Rattle.lists.specs.Below.{pick}
 use Rattle.wire.specs.Word.{numberAt}
-use Rattle.catalogue.specs.Plain.{Row}
+use Rattle.catalogue.specs.Plain.{Row, rowIn}
 use Rattle.wire.specs.Property.{variantType, numberSize, lengthSize}
 use Rattle.bindings.specs.declared.Column.{Column}
 use Rattle.lists.specs.Parts.{part}
@@ -15,10 +14,6 @@ use Rattle.page.specs.Field.{Field, number, text, absent}
 use Rattle.page.specs.Cell.{offsetWidth, textSize, statusOf, lengthOf, kindOf, blockOf}
 use Rattle.page.specs.Rows.{blocks, allBlocks}
 use Rattle.wire.specs.Header.{getRowsMsg}
-
--- the j-th of rows; past the end, one of no fields
-abbrev pub rowIn : List Row → ℕ → Row
-rowIn rows j = getD rows j (record { key = 0; language = 0; default = 0; label = none; note = none })
 
 -- "rows from R .., each W .. wide"
 abbrev pub rowPlace : ℕ → ℕ → ℕ → ℕ

@@ -1,18 +1,13 @@
 -- The rows of a reply (01, "Rows"): how many it has, and their bytes.
-use mathlib.Core.List.{List, [], _∷_, _++_, map}
+use mathlib.Core.List.{List, [], _∷_, _++_}
 use Prim.Native.Nat.{ℕ, zero, suc, _+_, _-_, _*_, _≤_}
 use lib.Dec.{leb}
-use lib.ListN.{getD, take}
+use lib.ListN.{take}
 use Rattle.lists.specs.Below.{pick}
 use Rattle.catalogue.specs.Plain.{Row}
-use Rattle.catalogue.specs.Places.{rowSeen}
 use Rattle.bindings.specs.declared.Column.{Column}
 use Rattle.wire.specs.Laid.{Laid}
 use Rattle.page.specs.Cell.{blockRoom, columnSpans}
-
--- the rows that have these numbers, in a catalogue whose rows stand at these places
-abbrev pub rowsAt : List ℕ → List ℕ → List ℕ → List Row
-rowsAt s places numbers = map (λ k. rowSeen s (getD places k 0)) numbers
 
 -- the bytes of a row's blocks, and of the blocks of rows
 unfoldable pub blocks : List Column → Row → ℕ

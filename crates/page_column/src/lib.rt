@@ -5,13 +5,14 @@ ghost use Prim.Native.Nat.{_+_, _*_, _≤_, _<_, _-_};
 ghost use lib.ListN.{length};
 ghost use Rattle.lists.specs.Below.{pick};
 ghost use Rattle.wire.specs.Word.{le, halves};
-ghost use Rattle.catalogue.specs.Places.{unitsPart, rowOf};
+ghost use Rattle.catalogue.specs.CataloguePlaces.{unitsPart, rowOf};
 ghost use Rattle.wire.specs.Property.{lengthSize};
 ghost use Rattle.bindings.specs.Fit.{isUsed};
 ghost use Rattle.wire.specs.Laid.{lay, lays};
-ghost use Rattle.page.specs.Field.{fieldSeen};
-ghost use Rattle.page.specs.Cell.{cellBytes, blockOf, blockSize, blockSpan, laidIf, blockRoom, columnSpans};
-ghost use Rattle.page.specs.Stands.{TextStands, FieldStands, ColumnIn, ColumnReady};
+ghost use Rattle.page.specs.FieldPlaces.{fieldSeen, cellBytes};
+ghost use Rattle.page.specs.Cell.{blockOf, blockSize, blockSpan, laidIf, blockRoom, columnSpans};
+ghost use Rattle.page.specs.FieldReady.{FieldReady, SpansReady, ColumnReady};
+ghost use Rattle.catalogue.specs.CatalogueReady.{UnitsReady};
 use bindings::Column;
 use catalogue::Fields;
 use catalogue::Text;
@@ -19,7 +20,7 @@ use page::FieldAt;
 
 // A text's block: its units and one zero unit.
 fn lay_text(reply: &mut [u8], catalogue: &[u8], text: Text, place: usize)
-    requires { ⌜ TextStands (now catalogue) text × (0 < text .size) × (place + 2 * text .size ≤ length (now reply)) ⌝ }
+    requires { ⌜ UnitsReady (now catalogue) text × (0 < text .size) × (place + 2 * text .size ≤ length (now reply)) ⌝ }
     ensures { λ _. ⌜ now (reply .exit) ≡ lay (now (reply .entry)) place (blockOf (halves (unitsPart (now (catalogue .entry)) text))) ⌝ }
 {
     let units = catalogue_row::units(catalogue, text);
@@ -30,7 +31,7 @@ fn lay_text(reply: &mut [u8], catalogue: &[u8], text: Text, place: usize)
 
 // A field's block, where the value is used and there is one.
 pub fn lay_block(reply: &mut [u8], catalogue: &[u8], used: u32, field: FieldAt, place: usize)
-    requires { ⌜ FieldStands (now catalogue) field × (place + pick (isUsed used) (blockSize (fieldSeen (now catalogue) field)) 0 ≤ length (now reply)) ⌝ }
+    requires { ⌜ FieldReady (now catalogue) field × (place + pick (isUsed used) (blockSize (fieldSeen (now catalogue) field)) 0 ≤ length (now reply)) ⌝ }
     ensures { λ _. ⌜ now (reply .exit) ≡ lays (now (reply .entry)) (pick (isUsed used) (blockSpan place (fieldSeen (now (catalogue .entry)) field)) []) ⌝ }
 {
     if used != 1 {
@@ -54,7 +55,7 @@ fn lay_variant(reply: &mut [u8], at: usize, kind: u64, number: u64)
 
 // A column's cell, where its value is used.
 pub fn lay_value(reply: &mut [u8], column: Column, row: usize, kind: u64, number: u64)
-    requires { ⌜ ColumnIn (length (now reply)) row column ⌝ }
+    requires { ⌜ SpansReady (length (now reply)) row column ⌝ }
     ensures { λ _. ⌜ now (reply .exit) ≡ lays (now (reply .entry)) (laidIf (column .value .used) (row + column .value .offset) (cellBytes (column .property) (column .vtype) kind number)) ⌝ }
 {
     if column.value.used != 1 {
@@ -70,7 +71,7 @@ pub fn lay_value(reply: &mut [u8], column: Column, row: usize, kind: u64, number
 
 // A column's status byte, where it is used.
 pub fn lay_status(reply: &mut [u8], column: Column, row: usize, status: u8)
-    requires { ⌜ ColumnIn (length (now reply)) row column ⌝ }
+    requires { ⌜ SpansReady (length (now reply)) row column ⌝ }
     ensures { λ _. ⌜ now (reply .exit) ≡ lays (now (reply .entry)) (laidIf (column .status .used) (row + column .status .offset) (status ∷ [])) ⌝ }
 {
     if column.status.used != 1 {
@@ -82,7 +83,7 @@ pub fn lay_status(reply: &mut [u8], column: Column, row: usize, status: u8)
 
 // A column's length, where it is used.
 pub fn lay_length(reply: &mut [u8], column: Column, row: usize, value: u64)
-    requires { ⌜ ColumnIn (length (now reply)) row column ⌝ }
+    requires { ⌜ SpansReady (length (now reply)) row column ⌝ }
     ensures { λ _. ⌜ now (reply .exit) ≡ lays (now (reply .entry)) (laidIf (column .length .used) (row + column .length .offset) (le lengthSize value)) ⌝ }
 {
     if column.length.used != 1 {

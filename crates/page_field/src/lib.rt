@@ -1,11 +1,12 @@
 // The field of a row that a property names, and what is sent of it: its status, length, cell, and block's room.
 ghost use mathlib.Core.Path.{_≡_};
-ghost use Rattle.page.specs.Field.{textFieldAt, fieldAt, fieldSeen};
-ghost use Rattle.catalogue.specs.Places.{rowOf};
+ghost use Rattle.page.specs.FieldPlaces.{textFieldAt, fieldAt, fieldSeen};
+ghost use Rattle.catalogue.specs.CataloguePlaces.{rowOf};
 ghost use Rattle.lists.specs.Below.{pick};
 ghost use Rattle.bindings.specs.Fit.{isUsed};
 ghost use Rattle.page.specs.Cell.{statusOf, lengthOf, kindOf, contentOf, blockSize, blockRoom};
-ghost use Rattle.page.specs.Stands.{InAny, FieldStands, FieldsStand, FieldSmall, FieldsSmall};
+ghost use Rattle.page.specs.FieldReady.{InAny, FieldReady, SizeReady, SizesReady};
+ghost use Rattle.catalogue.specs.CatalogueReady.{FieldsReady};
 use bindings::Column;
 use catalogue::Fields;
 use catalogue::Text;
@@ -52,8 +53,8 @@ pub fn status(field: FieldAt) -> u8
 
 // The bytes of a field's block.
 fn block_size(field: FieldAt) -> usize
-    requires { ⌜ FieldSmall field ⌝ }
-    ensures { λ r. ⌜ InAny (λ s. FieldStands s field → r ≡ blockSize (fieldSeen s field)) ⌝ }
+    requires { ⌜ SizeReady field ⌝ }
+    ensures { λ r. ⌜ InAny (λ s. FieldReady s field → r ≡ blockSize (fieldSeen s field)) ⌝ }
 {
     match field {
         FieldAt::NumberIs(_) => 0,
@@ -67,8 +68,8 @@ fn block_size(field: FieldAt) -> usize
 
 // The length that is sent.
 pub fn length_sent(field: FieldAt, property: u32) -> u64
-    requires { ⌜ FieldSmall field ⌝ }
-    ensures { λ r. ⌜ InAny (λ s. FieldStands s field → r ≡ lengthOf property (fieldSeen s field)) ⌝ }
+    requires { ⌜ SizeReady field ⌝ }
+    ensures { λ r. ⌜ InAny (λ s. FieldReady s field → r ≡ lengthOf property (fieldSeen s field)) ⌝ }
 {
     match field {
         FieldAt::NumberIs(_) => wire_property::number_size(property) as u64,
@@ -104,8 +105,8 @@ pub fn content(field: FieldAt, offset: u64) -> u64
 
 // The bytes of a field's block where its value is used.
 pub fn room_of(used: u32, field: FieldAt) -> usize
-    requires { ⌜ FieldSmall field ⌝ }
-    ensures { λ r. ⌜ InAny (λ s. FieldStands s field → r ≡ pick (isUsed used) (blockSize (fieldSeen s field)) 0) ⌝ }
+    requires { ⌜ SizeReady field ⌝ }
+    ensures { λ r. ⌜ InAny (λ s. FieldReady s field → r ≡ pick (isUsed used) (blockSize (fieldSeen s field)) 0) ⌝ }
 {
     if used != 1 {
         return 0;
@@ -115,8 +116,8 @@ pub fn room_of(used: u32, field: FieldAt) -> usize
 
 // The bytes of a column's block in a row.
 pub fn block_room(column: Column, fields: Fields) -> usize
-    requires { ⌜ FieldsSmall fields ⌝ }
-    ensures { λ r. ⌜ InAny (λ s. FieldsStand s fields → r ≡ blockRoom column (rowOf s fields)) ⌝ }
+    requires { ⌜ SizesReady fields ⌝ }
+    ensures { λ r. ⌜ InAny (λ s. FieldsReady s fields → r ≡ blockRoom column (rowOf s fields)) ⌝ }
 {
     let found = field(fields, column.property);
     room_of(column.value.used, found)

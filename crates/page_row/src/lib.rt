@@ -2,13 +2,13 @@
 ghost use mathlib.Core.Path.{_≡_};
 ghost use Prim.Native.Nat.{_+_, _-_, _≤_};
 ghost use lib.ListN.{length, getD};
-ghost use Rattle.catalogue.specs.Places.{RowThere, rowSeen};
+ghost use Rattle.catalogue.specs.CataloguePlaces.{rowSeen, fieldsSeen};
+ghost use Rattle.catalogue.specs.CatalogueReady.{RowAtReady};
 ghost use Rattle.bindings.specs.Column.{columnsOf};
 ghost use Rattle.bindings.specs.Fit.{rowMost};
 ghost use Rattle.wire.specs.Laid.{lays};
-ghost use Rattle.catalogue.specs.Seen.{fieldsSeen};
 ghost use Rattle.page.specs.Rows.{blocks, rowSpans};
-ghost use Rattle.page.specs.RowReady.{Words, blocksMost, RowReady};
+ghost use Rattle.page.specs.RowReady.{RecordsReady, blocksMost, RowReady};
 use catalogue::Fields;
 use page::Row;
 
@@ -32,7 +32,7 @@ pub fn row_blocks(
     records: &[u32],
     bound: usize,
 ) -> usize
-    requires { ⌜ Words (now records) bound × (fields ≡ fieldsSeen (now catalogue) at) ⌝ }
+    requires { ⌜ RecordsReady (now records) bound × (fields ≡ fieldsSeen (now catalogue) at) ⌝ }
     ensures { λ r. ⌜ (r ≡ blocks (columnsOf bound (now (records .entry))) (rowSeen (now (catalogue .entry)) at)) × (r ≤ blocksMost) ⌝ }
 {
     let mut total = 0;
@@ -56,7 +56,7 @@ pub fn room_of(
     bound: usize,
     width: usize,
 ) -> usize
-    requires { ⌜ Words (now records) bound × (width ≤ rowMost) × RowThere (now catalogue) (getD (now places) (row .0) 0) ⌝ }
+    requires { ⌜ RecordsReady (now records) bound × (width ≤ rowMost) × RowAtReady (now catalogue) (getD (now places) (row .0) 0) ⌝ }
     ensures { λ r. ⌜ r ≡ width + blocks (columnsOf bound (now (records .entry))) (rowSeen (now (catalogue .entry)) (getD (now (places .entry)) (row .0) 0)) ⌝ }
 {
     let at = place_of(places, row);

@@ -4,8 +4,9 @@ ghost use Prim.Native.Nat.{_-_};
 ghost use lib.ListN.{length, take};
 ghost use Rattle.bindings.specs.Column.{columnsOf};
 ghost use Rattle.wire.specs.Laid.{lays};
-ghost use Rattle.page.specs.Rows.{rowsAt, returned, rowsSpans};
-ghost use Rattle.page.specs.RowReady.{There, RowsReady};
+ghost use Rattle.page.specs.Rows.{returned, rowsSpans};
+ghost use Rattle.page.specs.RowPlaces.{rowsAt};
+ghost use Rattle.page.specs.RowReady.{NumbersReady, RowsReady};
 ghost use Rattle.page.specs.Page.{page, statusFor};
 ghost use Rattle.page.specs.PageReady.{PageReady};
 use page::Row;
@@ -25,7 +26,7 @@ pub fn lay_rows(
     size: usize,
     asked: usize,
 ) -> usize
-    requires { ⌜ RowsReady (length (now reply)) (now records) bound width base from size × There (now catalogue) (now places) (now numbers) ⌝ }
+    requires { ⌜ RowsReady (length (now reply)) (now records) bound width base from size × NumbersReady (now catalogue) (now places) (now numbers) ⌝ }
     ensures { λ r. ⌜ r ≡ returned width (columnsOf bound (now (records .entry))) asked (size - from) (rowsAt (now (catalogue .entry)) (now (places .entry)) (now (numbers .entry))) ⌝ }
     ensures { λ r. ⌜ now (reply .exit) ≡ lays (now (reply .entry)) (rowsSpans base width from size (columnsOf bound (now (records .entry))) (take r (rowsAt (now (catalogue .entry)) (now (places .entry)) (now (numbers .entry))))) ⌝ }
 {
@@ -75,7 +76,7 @@ pub fn page(
     base: u64,
     asked: usize,
 ) -> usize
-    requires { ⌜ PageReady (length (now reply)) (now records) bound width (length (now numbers)) size from base × There (now catalogue) (now places) (now numbers) ⌝ }
+    requires { ⌜ PageReady (length (now reply)) (now records) bound width (length (now numbers)) size from base × NumbersReady (now catalogue) (now places) (now numbers) ⌝ }
     ensures { λ r. ⌜ r ≡ returned width (columnsOf bound (now (records .entry))) asked (size - from) (rowsAt (now (catalogue .entry)) (now (places .entry)) (now (numbers .entry))) ⌝ }
     ensures { λ r. ⌜ now (reply .exit) ≡ page size from width base (statusFor (length (now (numbers .entry)) - r)) (columnsOf bound (now (records .entry))) (take r (rowsAt (now (catalogue .entry)) (now (places .entry)) (now (numbers .entry)))) (now (reply .entry)) ⌝ }
 {

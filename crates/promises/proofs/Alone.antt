@@ -26,7 +26,8 @@ use Rattle.message.proofs.Keeping.{message-fits}
 use Rattle.query.specs.Open.{freeHandle, openCauses, openedOn}
 use Rattle.call.specs.Step.{Sources, sourcesOf, Outcome, judging, seatHeld, isConnected, seated, sizing, connectStep, messageStep, openDone, openStep}
 use Rattle.call.proofs.Causes.{judging-numbered}
-use Rattle.call.proofs.Passing.{Passing, selected-fits}
+use Rattle.call.proofs.Passing.{selected-fits}
+use Rattle.call.specs.Passing.{Passing}
 use Rattle.call.proofs.Seating.{seat-ok}
 use Rattle.promises.specs.Calls.{Call, connecting, opening, messaging, seatOfCall, step, Answer, answerOf}
 

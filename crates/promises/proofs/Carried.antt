@@ -14,10 +14,8 @@ use Rattle.lists.specs.Below.{pick, both}
 use Rattle.wire.specs.Word.{numberAt}
 use Rattle.lists.proofs.Below.{by-test, true≢false}
 use Rattle.catalogue.specs.Plain.{Row, rowsOf}
-use Rattle.bindings.specs.Bindings.{Bindings}
-use Rattle.bindings.specs.Plain.{bindings}
-use Rattle.tree.specs.Reader.{restriction}
-use Rattle.tree.specs.Answer.{isTree}
+use Rattle.bindings.specs.Plain.{Bindings, bindings}
+use Rattle.tree.specs.Reader.{restriction, isTree}
 use Rattle.tree.specs.Select.{selectedBy}
 use Rattle.table.specs.Layout.{seats}
 use Rattle.table.specs.Seat.{Cursor, Seat, cursorIn, withCursor, opened, rebound, moved}
@@ -34,7 +32,7 @@ use Rattle.query.specs.Open.{freeHandle}
 use Rattle.call.specs.Step.{Sources, sourcesOf, seatHeld, sizing}
 use Rattle.call.proofs.Seating.{seat-ok}
 use Rattle.promises.specs.Calls.{Call, connecting, opening, messaging, seatOfCall, step, Answer, answerOf, history, after}
-use Rattle.promises.specs.Told.{Handle, carriedOn, boundOn, afterMessage, accepted, afterCall, cursorTold, cursorBy, heldCursor}
+use Rattle.promises.specs.Client.{Handle, carriedOn, boundOn, afterMessage, accepted, afterCall, cursorTold, cursorBy, heldCursor}
 use Rattle.promises.proofs.Refusals.{accepted-passes, seat-refusal}
 use Rattle.promises.proofs.Unchanged.{refused-leaves}
 use Rattle.promises.proofs.Alone.{ownStep, step-alone}

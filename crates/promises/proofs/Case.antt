@@ -7,7 +7,8 @@ use native.Mathlib.Omega.{arith}
 use Rattle.lists.specs.Below.{everyBelow}
 use Rattle.wire.specs.Word.{number, numberAt, le}
 use Rattle.catalogue.specs.Writer.{unitBytes}
-use Rattle.catalogue.proofs.Vectors.{caseBytes, caseRows, case-parses}
+use Rattle.catalogue.proofs.Vectors.{case-parses}
+use Rattle.catalogue.specs.Examples.{caseBytes, caseRows}
 use Rattle.lists.specs.Every.{every, pairwise}
 use Rattle.bindings.specs.Fit.{spansOf, columnsFit, fit}
 use Rattle.bindings.specs.Plain.{zeroBytes, flag, spot, value, property, column, columns, bindings}
@@ -28,7 +29,7 @@ use Rattle.table.specs.Layout.{seats}
 use Rattle.table.specs.Seat.{Seat}
 use Rattle.message.specs.Message.{kindFrom, seatMessage}
 use Rattle.call.specs.Step.{Sources, sourcesOf, seatHeld}
-use Rattle.call.proofs.Passing.{Passing}
+use Rattle.call.specs.Passing.{Passing}
 use Rattle.promises.specs.Calls.{Call, seatOfCall, step, Answer, Event, history, freshTable}
 use Rattle.promises.specs.Case.{caseCalls, caseEvents}
 use Rattle.promises.proofs.Reached.{step-passes, fresh-seat, fresh-passes}

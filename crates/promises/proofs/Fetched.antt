@@ -25,7 +25,7 @@ use Rattle.table.specs.Open.{isOpen}
 use Rattle.call.specs.Step.{Sources, sourcesOf, judging, seatHeld, sizing, messageStep}
 use Rattle.call.proofs.Seating.{seat-ok}
 use Rattle.promises.specs.Calls.{Call, messaging, step, answerOf, history, after, freshTable}
-use Rattle.promises.specs.Told.{Handle, cursorTold, cursorBy, heldCursor}
+use Rattle.promises.specs.Client.{Handle, cursorTold, cursorBy, heldCursor}
 use Rattle.promises.specs.Rows.{rowsTold, firstRows, RowsReply, Sends, Carries}
 use Rattle.promises.proofs.Refusals.{seat-refusal, accepted-passes}
 use Rattle.promises.proofs.Reached.{fresh-seat, reached-well}

@@ -12,7 +12,7 @@ use Rattle.table.specs.Layout.{seats}
 use Rattle.table.specs.Seat.{Seat}
 use Rattle.refusal.specs.Refusal.{firstCause}
 use Rattle.call.specs.Step.{Sources, sourcesOf, Outcome, seatHeld}
-use Rattle.call.proofs.Passing.{Passing}
+use Rattle.call.specs.Passing.{Passing}
 use Rattle.promises.specs.Calls.{Call, connecting, opening, messaging, seatOfCall, step, Answer, answerOf, Event, history, freshTable}
 use Rattle.promises.specs.Causes.{causesOf, refusalReply}
 use Rattle.promises.specs.Own.{ownCalls, ownEvents}

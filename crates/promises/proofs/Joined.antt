@@ -9,13 +9,12 @@ use lib.ListN.{take}
 use lib.Seq.{take-add}
 use Rattle.lists.specs.Below.{both}
 use Rattle.lists.proofs.Below.{by-test}
-use Rattle.bindings.specs.Bindings.{Bindings}
-use Rattle.bindings.specs.Plain.{bindings}
+use Rattle.bindings.specs.Plain.{Bindings, bindings}
 use Rattle.table.specs.Seat.{Cursor}
 use Rattle.message.specs.Message.{msgOf, handleOf}
 use Rattle.call.specs.Step.{Sources}
 use Rattle.promises.specs.Calls.{Call, connecting, opening, messaging, Answer, Event}
-use Rattle.promises.specs.Told.{carriedOn, boundOn, accepted, afterMessage, afterCall, cursorTold}
+use Rattle.promises.specs.Client.{carriedOn, boundOn, accepted, afterMessage, afterCall, cursorTold}
 use Rattle.promises.specs.Rows.{countIn, pageOn, joinedMessage, joinedCall, rowsTold, firstRows}
 
 page-joined : (reply : List ℕ) (c : Option Cursor) → firstRows (carriedOn reply c) ≡ pageOn reply c (firstRows c)

@@ -10,8 +10,8 @@ use Rattle.wire.specs.Word.{le}
 use Rattle.wire.specs.Laid.{fourWords}
 use Rattle.refusal.specs.Refusal.{statusOf}
 use Rattle.message.specs.Message.{msgOf}
-use Rattle.call.specs.Step.{Sources, Keeps}
-use Rattle.call.proofs.Once.{Same, keeps-once}
+use Rattle.call.specs.Step.{Sources, Keeps, Same}
+use Rattle.call.proofs.Once.{keeps-once}
 use Rattle.promises.specs.Calls.{Call, messaging, step}
 use Rattle.promises.specs.Causes.{refusalReply}
 use Rattle.promises.proofs.Unchanged.{refused-leaves}

@@ -11,8 +11,7 @@ use lib.Dec.{eqb}
 use Rattle.lists.proofs.Below.{by-test, true≢false}
 use Rattle.catalogue.specs.Plain.{Row, catalogue}
 use Rattle.tree.specs.Tree.{Tree}
-use Rattle.tree.specs.Reader.{restriction}
-use Rattle.tree.specs.Answer.{isTree}
+use Rattle.tree.specs.Reader.{restriction, isTree}
 use Rattle.tree.specs.Select.{selection, selectedBy}
 use Rattle.tree.proofs.Selection.{selection-has, selection-rises}
 use Rattle.table.specs.Seat.{Cursor, Seat, cursorIn, opened}
@@ -24,7 +23,7 @@ use Rattle.call.specs.Step.{Sources, sourcesOf, Outcome, rowsHold, judging, sea
 use Rattle.call.proofs.Causes.{judging-numbered}
 use Rattle.call.proofs.Opening.{closed}
 use Rattle.promises.specs.Calls.{opening, step, Answer, answerOf}
-use Rattle.promises.specs.Told.{afterCall, cursorBy, heldCursor}
+use Rattle.promises.specs.Client.{afterCall, cursorBy, heldCursor}
 use Rattle.promises.specs.Opens.{Opens}
 use Rattle.promises.proofs.Refusals.{refusal-is, accepted-passes}
 use Rattle.promises.proofs.Carried.{free-handle, step-told}

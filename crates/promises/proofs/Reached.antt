@@ -17,7 +17,8 @@ use Rattle.table.specs.Seat.{seatWords, seatOf}
 use Rattle.table.specs.Well.{seatWell, tableWell, seatBelow, tableBelow}
 use Rattle.table.proofs.Seats.{seat-words}
 use Rattle.call.specs.Step.{Sources, sourcesOf, rowsHold, seatHeld}
-use Rattle.call.proofs.Passing.{Passing, connect-passes, open-passes, message-passes}
+use Rattle.call.proofs.Passing.{connect-passes, open-passes, message-passes}
+use Rattle.call.specs.Passing.{Passing}
 use Rattle.promises.specs.Calls.{Call, connecting, opening, messaging, step, after, freshTable}
 use Rattle.promises.proofs.Refusals.{accepted-passes}
 use Rattle.promises.proofs.Unchanged.{refused-leaves}

@@ -14,8 +14,8 @@ use lib.ListN.{length, getD, take, drop, replicate, length-map, length-drop, len
 use lib.Seq.{length-take-le, getD-take, getD-drop}
 use Rattle.lists.proofs.Below.{by-test}
 use Rattle.lists.proofs.Options.{none≢some, some-is}
-use Rattle.catalogue.specs.Plain.{Row, catalogue}
-use Rattle.catalogue.specs.Places.{places, rowSeen}
+use Rattle.catalogue.specs.Plain.{Row, catalogue, rowIn}
+use Rattle.catalogue.specs.CataloguePlaces.{places, rowSeen}
 use Rattle.catalogue.proofs.Agree.{accepted, catalogue-agrees}
 use Rattle.bindings.specs.Fit.{fit}
 use Rattle.bindings.specs.Sound.{column}
@@ -26,7 +26,7 @@ use Rattle.fetch.specs.Request.{Sound}
 use Rattle.fetch.specs.declared.Request.{Request}
 use Rattle.page.specs.Rows.{allBlocks, Fits}
 use Rattle.page.specs.Page.{pageBytes, page, statusFor, endOfRows}
-use Rattle.page.specs.Reads.{rowIn, rowPlace, blockPlace, Held, Reads, HeadReads}
+use Rattle.page.specs.Reads.{rowPlace, blockPlace, Held, Reads, HeadReads}
 use Rattle.page.proofs.Head.{held-seen}
 use Rattle.page.proofs.ReadBack.{reads-back}
 use Rattle.page.proofs.Reply.{page-inside, page-clear, page-zero, bytes-length}

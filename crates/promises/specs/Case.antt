@@ -1,13 +1,12 @@
 -- 01's whole case as calls and answers: "Both rows selected, position 0; M7's request with B 512, version 5".
-use mathlib.Core.List.{List, [], _∷_, _++_}
+use mathlib.Core.List.{List, [], _∷_}
 use Prim.Native.Nat.{ℕ}
-use Rattle.wire.specs.Word.{le}
-use Rattle.wire.proofs.Vectors.{wordsOf}
 use Rattle.wire.specs.Laid.{fourWords}
-use Rattle.tree.proofs.TreeVectors.{spec, related}
-use Rattle.page.proofs.Vectors.{caseReply}
+use Rattle.tree.specs.Examples.{related}
+use Rattle.page.specs.Examples.{caseReply}
 use Rattle.promises.specs.Calls.{Call, connecting, opening, messaging, Event}
 use Rattle.promises.specs.Numbers.{getRows}
+use Rattle.bindings.specs.Examples.{caseBindings}
 
 -- a call with its answer
 abbrev pub event : Call → ℕ → ℕ → List ℕ → Event
@@ -17,19 +16,12 @@ event c refusal handle reply = record { call = c; answer = record { refusal = re
 abbrev pub bothRows : List ℕ
 bothRows = related 3 2 0
 
--- set bindings: handle 1, _cbRow 24, _cbBindingDesc, _dummy, one column: its property and type, and used flag, padding and offset of its
--- value with its size, of its status and of its length
-abbrev pub bindLabel : List ℕ
-bindLabel =
-    wordsOf (0xD0 ∷ 0 ∷ 0 ∷ 0 ∷ 1 ∷ 24 ∷ 46 ∷ 0 ∷ 1 ∷ [])
-    ++ (spec 5 ++ (le 4 0x000C ++ (1 ∷ 0 ∷ 0 ∷ 0 ∷ 16 ∷ 0 ∷ 1 ∷ 0 ∷ 16 ∷ 0 ∷ 1 ∷ 0 ∷ 20 ∷ 0 ∷ [])))
-
 -- connect with version 5, open, set "One column, property 5, type 0x000C at 0, status at 16, length at 20, width 24", get rows
 abbrev pub caseCalls : List Call
 caseCalls =
     connecting 0 5
     ∷ opening 0 bothRows
-    ∷ messaging 0 bindLabel 16384
+    ∷ messaging 0 caseBindings 16384
     ∷ messaging 0 (getRows 512 0) 16384
     ∷ []
 
@@ -38,6 +30,6 @@ abbrev pub caseEvents : List Event
 caseEvents =
     event (connecting 0 5) 0 0 []
     ∷ event (opening 0 bothRows) 0 1 []
-    ∷ event (messaging 0 bindLabel 16384) 0 0 (fourWords 0xD0 0 0 0)
+    ∷ event (messaging 0 caseBindings 16384) 0 0 (fourWords 0xD0 0 0 0)
     ∷ event (messaging 0 (getRows 512 0) 16384) 0 0 caseReply
     ∷ []

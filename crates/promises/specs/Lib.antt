@@ -1,6 +1,6 @@
 pub mod Calls
 pub mod Causes
-pub mod Told
+pub mod Client
 pub mod Own
 pub mod Rows
 pub mod Opens

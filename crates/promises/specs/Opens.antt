@@ -7,15 +7,14 @@ use mathlib.Core.Logic.{_↔_, _⊎_}
 use mathlib.Core.Option.{none, some}
 use Prim.Native.Nat.{ℕ, _<_}
 use lib.ListN.{length}
-use Rattle.catalogue.specs.Plain.{Row, catalogue}
+use Rattle.catalogue.specs.Plain.{Row, catalogue, rowIn}
 use Rattle.tree.specs.Tree.{Tree}
 use Rattle.tree.specs.TreeHolds.{holds}
 use Rattle.tree.specs.Reader.{restriction}
 use Rattle.lists.specs.Rising.{Rises}
-use Rattle.page.specs.Reads.{rowIn}
 use Rattle.table.specs.Seat.{opened}
 use Rattle.call.specs.Step.{Outcome}
-use Rattle.promises.specs.Told.{heldCursor}
+use Rattle.promises.specs.Client.{heldCursor}
 
 pub record Opens (s t : List ℕ) (seat : ℕ) (bytes : List ℕ) (o : Outcome) : Type 0 where
   pub rows : List Row

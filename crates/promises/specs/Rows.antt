@@ -8,7 +8,7 @@ use lib.Dec.{eqb}
 use lib.ListN.{length, getD, take, drop}
 use Rattle.lists.specs.Below.{pick, both}
 use Rattle.wire.specs.Word.{numberAt}
-use Rattle.catalogue.specs.Plain.{Row}
+use Rattle.catalogue.specs.Plain.{Row, rowIn}
 use Rattle.bindings.specs.Sound.{column}
 use Rattle.page.specs.Field.{fieldOf}
 use Rattle.lists.specs.Each.{Each, Pairwise}
@@ -18,12 +18,12 @@ use Rattle.fetch.specs.Request.{request}
 use Rattle.fetch.specs.declared.Request.{Request}
 use Rattle.page.specs.Rows.{Fits}
 use Rattle.page.specs.Page.{pageSpans, pageBytes, endOfRows}
-use Rattle.page.specs.Reads.{rowIn, rowPlace, blockPlace, Reads, HeadReads}
+use Rattle.page.specs.Reads.{rowPlace, blockPlace, Reads, HeadReads}
 use Rattle.fetch.specs.Fetch.{numbered, remaining}
 use Rattle.message.specs.Message.{msgOf, handleOf}
 use Rattle.call.specs.Step.{Sources}
 use Rattle.promises.specs.Calls.{Call, connecting, opening, messaging, Answer, Event}
-use Rattle.promises.specs.Told.{accepted, afterCall, cursorTold, heldCursor}
+use Rattle.promises.specs.Client.{accepted, afterCall, cursorTold, heldCursor}
 use Rattle.wire.specs.Header.{disconnectMsg, freeCursorMsg, getRowsMsg}
 
 -- "_cRowsReturned" and the status, as the reply's bytes say them

@@ -7,7 +7,7 @@ use native.Mathlib.Omega.{arith}
 use Rattle.table.specs.Seat.{Seat}
 use Rattle.refusal.specs.Refusal.{firstCause}
 use Rattle.query.specs.Open.{openCauses}
-use Rattle.query.specs.Answer.{Judged}
+use Rattle.query.specs.OpenTold.{Judged}
 use Rattle.query.specs.declared.Opened.{Opened}
 
 -- the same refusal and the same handle

@@ -11,14 +11,13 @@ use lib.ListN.{length, getD, take, drop, set, length-append, length-map, length-
 use Rattle.lists.proofs.Below.{by-test}
 use Rattle.lists.proofs.Options.{some-is}
 use Rattle.catalogue.specs.Plain.{Row, catalogue}
-use Rattle.catalogue.specs.Places.{places, rowSeen}
+use Rattle.catalogue.specs.CataloguePlaces.{places, rowSeen}
 use Rattle.catalogue.proofs.Agree.{catalogue-agrees}
 use Rattle.tree.specs.Tree.{Tree}
 use Rattle.tree.specs.TreeHolds.{holds}
-use Rattle.tree.specs.Reader.{restriction}
-use Rattle.tree.specs.Answer.{isTree}
+use Rattle.tree.specs.Reader.{restriction, isTree}
 use Rattle.tree.specs.Select.{selectedBy, selected}
-use Rattle.tree.specs.Noted.{Noted}
+use Rattle.tree.specs.SelectReady.{NotedReady}
 use Rattle.tree.proofs.Selection.{numbers-few}
 use Rattle.tree.proofs.SelectLaws as Laws
 use Rattle.table.specs.Layout.{cursorSize, rowsSize}
@@ -29,7 +28,7 @@ use Rattle.table.proofs.Writes.{opened-words}
 use Rattle.refusal.specs.Refusal.{firstCause}
 use Rattle.table.specs.Open.{isOpen}
 use Rattle.query.specs.Open.{freeHandle, openCauses}
-use Rattle.query.specs.Answer.{handleFor, Judged}
+use Rattle.query.specs.OpenTold.{handleFor, Judged}
 use Rattle.lists.proofs.Parts.{drop-zeros}
 
 -- the lowest free handle
@@ -92,14 +91,14 @@ open-tree (some s) tree e =
     (λ f. absurd (let z : _≡_ {A = ℕ} 16 0 = rw (f, q) at e in omega arith)))
 
 -- a selection has at most as many rows as there is room for
-pub rows-most : (s : List ℕ) (rows : ℕ) (noted : List ℕ) (found : List Row) → Noted s rows noted → catalogue s ≡ some found → length found ≡ rows
+pub rows-most : (s : List ℕ) (rows : ℕ) (noted : List ℕ) (found : List Row) → NotedReady s rows noted → catalogue s ≡ some found → length found ≡ rows
 rows-most s rows noted found n e =
     ap length (sym (some-is (sym seen ∙ e))) ∙ length-map (places s) (rowSeen s) ∙ Laws.counted s rows noted n
   where
     seen : catalogue s ≡ some (map (rowSeen s) (places s))
     seen = catalogue-agrees s ∙ rw (n .well)
 
-pub selected-few : (tree s : List ℕ) (rows : ℕ) (noted : List ℕ) → Noted s rows noted → length (selected tree s) ≤ rowsSize
+pub selected-few : (tree s : List ℕ) (rows : ℕ) (noted : List ℕ) → NotedReady s rows noted → length (selected tree s) ≤ rowsSize
 selected-few tree s rows noted n = go (restriction tree) (catalogue s) refl
   where
     go : (t : Option Tree) (found : Option (List Row)) → catalogue s ≡ found → length (selectedBy t found) ≤ rowsSize

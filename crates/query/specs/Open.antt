@@ -6,8 +6,7 @@ use Prim.Native.Nat.{ℕ}
 use lib.Dec.{eqb}
 use Rattle.lists.specs.Below.{pick}
 use Rattle.catalogue.specs.Plain.{Row}
-use Rattle.tree.specs.Reader.{restriction}
-use Rattle.tree.specs.Answer.{isTree}
+use Rattle.tree.specs.Reader.{restriction, isTree}
 use Rattle.tree.specs.Select.{selectedBy}
 use Rattle.table.specs.Seat.{Seat, withCursor, opened}
 use Rattle.table.specs.Open.{isOpen}

@@ -7,11 +7,10 @@ ghost use Rattle.table.specs.Layout.{seatSize, cursorSize, cursorPlace};
 ghost use Rattle.lists.specs.Parts.{part, put};
 ghost use Rattle.table.specs.Seat.{seatIn, seatOf, cursorWords, opened};
 ghost use Rattle.query.specs.Open.{freeHandle};
-ghost use Rattle.query.specs.Answer.{Judged};
-ghost use Rattle.tree.specs.Reader.{restriction};
-ghost use Rattle.tree.specs.Answer.{isTree};
+ghost use Rattle.query.specs.OpenTold.{Judged};
+ghost use Rattle.tree.specs.Reader.{restriction, isTree};
 ghost use Rattle.tree.specs.Select.{selected};
-ghost use Rattle.tree.specs.Noted.{Noted};
+ghost use Rattle.tree.specs.SelectReady.{NotedReady};
 use query::Opened;
 
 // The lowest free handle, or 0.
@@ -63,7 +62,7 @@ fn fill(
     rows: u32,
     places: &[u32; catalogue::ROWS_MOST],
 )
-    requires { ⌜ (now cursor ≡ cursorWords none) × (isTree (restriction (now tree)) ≡ true) × Noted (now catalogue) rows (now places) ⌝ }
+    requires { ⌜ (now cursor ≡ cursorWords none) × (isTree (restriction (now tree)) ≡ true) × NotedReady (now catalogue) rows (now places) ⌝ }
     ensures { λ _. ⌜ now (cursor .exit) ≡ cursorWords (some (opened (selected (now (tree .entry)) (now (catalogue .entry))))) ⌝ }
 {
     let count = tree_select::select(
@@ -85,7 +84,7 @@ pub fn open(
     rows: u32,
     places: &[u32; catalogue::ROWS_MOST],
 )
-    requires { ⌜ (length (now seat) ≡ seatSize) × (part (now seat) (cursorPlace handle) cursorSize ≡ cursorWords none) × (isTree (restriction (now tree)) ≡ true) × Noted (now catalogue) rows (now places) ⌝ }
+    requires { ⌜ (length (now seat) ≡ seatSize) × (part (now seat) (cursorPlace handle) cursorSize ≡ cursorWords none) × (isTree (restriction (now tree)) ≡ true) × NotedReady (now catalogue) rows (now places) ⌝ }
     ensures { λ _. ⌜ now (seat .exit) ≡ put (now (seat .entry)) (cursorPlace handle) cursorSize (cursorWords (some (opened (selected (now (tree .entry)) (now (catalogue .entry)))))) ⌝ }
 {
     let at = table_handle::cursor_at(handle);

@@ -37,6 +37,7 @@ property-is s at h =
     let outer : propertyAt s at ≡ inner = pick-is (isNumbered s at) inner h in
     outer ∙ pick-is (setOurs s at) (numberAt 4 s (at + 20)) (rw outer at h)
 
+-- a property leaf in words
 pub relation-words : (s : List ℕ) (p : Parts) (used : ℕ) → relationAt s ≡ LeafTo p used → (44 ≤ length s) × (p ≡ OfRelation (relationIn s)) × (used ≡ 44)
 unfolding relationAt
 relation-words s p used e =
@@ -50,6 +51,7 @@ relation-words s p used e =
     let l = leb-true 2 (propertyAt s 12) (both-left (leb 2 (propertyAt s 12)) _ n) in
     (leb-true 44 (length s) (both-left _ (both served typed) (i .0)), rw (← a, property-is s 12 (omega (arith, l))), sym b)
 
+-- a content leaf in words: where its count stands, its units end, and its locale stands
 phrase-words : (s : List ℕ) (place start count next : ℕ) → phraseAt s place 32 ≡ PhraseTo start count next
     → (start ≡ countAt place + 4) × (count ≡ numberAt 4 s (countAt place)) × (next ≡ localeAt s place)
 unfolding phraseAt

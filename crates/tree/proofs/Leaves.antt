@@ -12,7 +12,7 @@ use lib.ListN.{length, take, drop, length-drop}
 use lib.Seq.{drop-drop}
 use Rattle.wire.specs.Word.{number, numberAt, halves}
 use Rattle.lists.proofs.Below.{by-test}
-use Rattle.catalogue.specs.Places.{textOf, rowOf}
+use Rattle.catalogue.specs.CataloguePlaces.{textOf, rowOf}
 use Rattle.catalogue.specs.declared.Text.{Text}
 use Rattle.catalogue.specs.declared.Fields.{Fields}
 use Rattle.wire.specs.Padding.{padding}
@@ -25,8 +25,8 @@ use Rattle.tree.proofs.LeafWords.{relation-words, content-words}
 use Rattle.tree.specs.VerdictTold.{told}
 use Rattle.tree.specs.LeafPlaces.{countAt, unitsEnd, localeAt}
 use Rattle.tree.specs.HoldTold.{relationTold, contentTold, leafTold}
-use Rattle.tree.specs.Inside.{TextInside, RowInside}
-use Rattle.tree.specs.There.{LeafThere}
+use Rattle.catalogue.specs.CatalogueReady.{FieldsReady, UnitsReady}
+use Rattle.tree.specs.HoldReady.{LeafReady}
 
 -- a word of what is left from a place on
 pub word-from : (n : ℕ) (s : List ℕ) (at k : ℕ) → numberAt n (drop at s) k ≡ numberAt n s (at + k)
@@ -34,7 +34,7 @@ unfolding numberAt
 word-from n s at k = ap (λ (t : List ℕ). number (take n t)) (drop-drop k at s)
 
 -- the row's text that a property names lies inside
-pub text-inside : (held : List ℕ) (property : ℕ) (f : Fields) → RowInside held f → TextInside held (ofTexts property (f .label) (f .note))
+pub text-inside : (held : List ℕ) (property : ℕ) (f : Fields) → FieldsReady held f → UnitsReady held (ofTexts property (f .label) (f .note))
 text-inside held property f i = by-test (eqb property 5) (λ q. rw q (i .label)) (λ q. rw q (i .note))
 
 -- and is the text of the row as data
@@ -83,7 +83,7 @@ module _ (s : List ℕ) (at before count after : ℕ) (b : before ≡ padding 4 
 pub left-past : (n at : ℕ) (s : List ℕ) → 0 < n → n ≤ length (drop at s) → at + n ≤ length s
 left-past n at s p h = omega (arith, p, h, length-drop at s)
 
-module _ (kind : ℕ) (s : List ℕ) (at : ℕ) (held : List ℕ) (f : Fields) (w : LeafThere kind s at) where
+module _ (kind : ℕ) (s : List ℕ) (at : ℕ) (held : List ℕ) (f : Fields) (w : LeafReady kind s at) where
   pub leaf-is : leafTold kind s at (rowOf held f) ≡ told (leafHolds (rowOf held f) (leafOf (drop at s) (w .parts))) (at + w .used)
   leaf-is = rw (w .read)
 

@@ -24,14 +24,13 @@ use Rattle.tree.specs.Limits.{bytesMost, nodesMost, levelsMost}
 use Rattle.tree.specs.Tree.{Tree, Forest, leaf, and, or, end, further}
 use Rattle.tree.specs.Tree as Tree
 use Rattle.tree.specs.TreeHolds.{says, everySays, someSays, tellsOf, holds, heldBy}
-use Rattle.tree.specs.Reader.{TreeRead, ForestRead, Read, readList, joined, branchRead, negated, notRead, leafRead, readTree, restriction}
+use Rattle.tree.specs.Reader.{TreeRead, ForestRead, Read, readList, joined, branchRead, negated, notRead, leafRead, readTree, restriction, isTree}
 use Rattle.tree.specs.Kinds.{isBranch}
-use Rattle.tree.specs.Answer.{isTree}
 use Rattle.tree.proofs.TreeFacts.{held}
 use Rattle.tree.proofs.TreeLaws.{no-levels, no-nodes, no-head, node-branch, node-not, node-leaf}
 use Rattle.tree.specs.VerdictTold.{told, turned, withChild}
 use Rattle.tree.specs.HoldTold.{leafTold}
-use Rattle.tree.specs.There.{LeafThere, Found, Tells}
+use Rattle.tree.specs.HoldReady.{LeafReady, Found, Tells}
 use Rattle.tree.proofs.Leaves.{word-from, left-past}
 
 -- an answer in one number
@@ -97,12 +96,12 @@ not-told row at answer r t e a =
     rw (a, place, e) (turned-told (holds (t .tree) row) (at + (8 + t .used)))
 
 -- a leaf is answered as it is read
-pub leaf-found : (kind nodes place : ℕ) (s : List ℕ) (r : TreeRead) → leafRead kind nodes place (drop place s) ≡ some r → length s ≤ bytesMost → LeafThere kind s place
+pub leaf-found : (kind nodes place : ℕ) (s : List ℕ) (r : TreeRead) → leafRead kind nodes place (drop place s) ≡ some r → length s ≤ bytesMost → LeafReady kind s place
 leaf-found kind nodes place s r e short = go (leafAt kind (drop place s) place) refl e
   where
     go : (x : LeafAt) → leafAt kind (drop place s) place ≡ x
         → withLeaf x none (λ parts used. some (record { tree = leaf place (leafOf (drop place s) parts); used = used; nodes = nodes })) ≡ some r
-        → LeafThere kind s place
+        → LeafReady kind s place
     go NoLeaf q e = absurd (none≢some e)
     go (LeafTo parts used) q e = record { short = short; parts = parts; used = used; read = q }
 

@@ -2,36 +2,15 @@
 -- search at the first place that fails its right edge"). Assumes nothing.
 use mathlib.Core.Path.{_≡_, refl}
 use mathlib.Core.Bool.{true, false}
-use mathlib.Core.List.{List, [], _∷_, _++_}
+use mathlib.Core.List.{List, [], _∷_}
 use Prim.Native.Nat.{ℕ, _+_, _≤_}
 use native.Mathlib.Omega.{arith}
 use lib.ListN.{length}
 use Rattle.lists.specs.Below.{someBelow, everyBelow}
-use Rattle.tree.specs.Phrase.{space, standsAt, startsWord, endsWord, occursAt, occurs}
+use Rattle.tree.specs.Phrase.{standsAt, startsWord, endsWord, occursAt, occurs}
 use Rattle.lists.proofs.Says.{says-not}
 use Rattle.tree.proofs.Phrase.{occurs-says}
-
--- "start", "starting", "restart", "re start", "re starting start" and "a re start b", as units
-abbrev pub start : List ℕ
-start = 115 ∷ 116 ∷ 97 ∷ 114 ∷ 116 ∷ []
-
-abbrev pub starting : List ℕ
-starting = start ++ 105 ∷ 110 ∷ 103 ∷ []
-
-abbrev re : List ℕ
-re = 114 ∷ 101 ∷ []
-
-abbrev pub restart : List ℕ
-restart = re ++ start
-
-abbrev pub re-start : List ℕ
-re-start = re ++ space ∷ start
-
-abbrev pub re-starting-start : List ℕ
-re-starting-start = re ++ space ∷ starting ++ space ∷ start
-
-abbrev pub a-re-start-b : List ℕ
-a-re-start-b = 97 ∷ space ∷ re-start ++ space ∷ 98 ∷ []
+use Rattle.tree.specs.Examples.{start, starting, restart, re-start, re-starting-start, a-re-start-b}
 
 -- M8: "start" in "starting", method 0 no, 1 yes
 pub m8 : (occurs 0 start starting ≡ false) × (occurs 1 start starting ≡ true)

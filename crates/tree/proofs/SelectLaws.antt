@@ -12,38 +12,26 @@ use lib.ListN.{length, getD, take, drop, length-map, drop-of-length-le}
 use lib.Seq.{take-at, drop-cons, getD-take, sets, sets-eq}
 use Rattle.lists.specs.Below.{pick}
 use Rattle.lists.proofs.Below.{by-test}
-use Rattle.catalogue.specs.Reading.{readingAt}
+use Rattle.catalogue.specs.NumberPlaces.{readingAt}
 use Rattle.catalogue.specs.declared.Reading.{Reading}
 use Rattle.catalogue.specs.declared.Reading.the-variants.{Number, Malformed}
 use Rattle.catalogue.proofs.Inside.{reading-read}
 use Rattle.catalogue.specs.Limits.{rowsMost, bytesMost}
 use Rattle.catalogue.specs.Plain.{Row}
-use Rattle.catalogue.specs.Places.{withNumber, RowThere, rowAt, rowsEnd, rowSeen, malformed, counted as checkCounted, checked, places, noted}
-use Rattle.catalogue.specs.declared.Fields.{Fields}
+use Rattle.catalogue.specs.CataloguePlaces.{withNumber, rowAt, rowsEnd, rowSeen, malformed, counted as checkCounted, checked, places, noted}
+use Rattle.catalogue.specs.CatalogueReady.{RowAtReady}
 use Rattle.catalogue.specs.declared.Checked.{Checked}
-use Rattle.catalogue.specs.declared.RowAt.the-variants.{RowTo, NoRow}
-use Rattle.catalogue.proofs.RowLaws.{row-read}
+use Rattle.catalogue.specs.declared.RowAt.the-variants.{NoRow}
 use Rattle.catalogue.proofs.Agree.{accepted, catalogue-agrees, rows-counted, row-stands}
-use Rattle.tree.specs.Inside.{RowInside}
 use Rattle.tree.specs.Tree.{Tree}
 use Rattle.tree.specs.TreeHolds.{heldBy}
 use Rattle.tree.specs.Reader.{restriction}
-use Rattle.tree.specs.Select.{numbersFrom, selectedBy, selected, Selected}
+use Rattle.tree.specs.Select.{numbersFrom, selectedBy, selected}
+use Rattle.tree.specs.SelectTold.{Selected}
 use Rattle.tree.proofs.Selection.{numbers-few}
-use Rattle.tree.specs.Noted.{Noted}
+use Rattle.tree.specs.SelectReady.{NotedReady}
 
--- a row that was read has its texts inside, and is the row that is seen at its place
-pub row-inside : (s : List ℕ) (at : ℕ) (f : Fields) (next : ℕ) → rowAt s at ≡ RowTo f next → RowInside s f
-row-inside s at f next e =
-    let r = row-read s at f next e in
-    let l = r .label in
-    let n = r .note in
-    record {
-      label = record { small = l .small; inside = omega (arith, l .ends, l .inside) };
-      note = record { small = n .small; inside = omega (arith, n .ends, n .inside) };
-    }
-
-pub no-row : {A : Type 0} (s : List ℕ) (at : ℕ) → RowThere s at → rowAt s at ≡ NoRow → A
+pub no-row : {A : Type 0} (s : List ℕ) (at : ℕ) → RowAtReady s at → rowAt s at ≡ NoRow → A
 no-row s at w e = let z : _≡_ {A = ℕ} 0 1 = cc (w .2, e) in absurd (omega arith)
 
 -- the numbers of the rows from the i-th on
@@ -66,7 +54,7 @@ rows-few s = by-test (leb (length s) bytesMost) (λ q. rw q (go (readingAt rowsM
         by-test (rowsEnd n s at) (λ q. rw q (reading-read rowsMost s 0 n at e .small)) (λ q. rw q (omega arith))
 
 -- a catalogue that was checked
-module _ (s : List ℕ) (rows : ℕ) (held : List ℕ) (n : Noted s rows held) where
+module _ (s : List ℕ) (rows : ℕ) (held : List ℕ) (n : NotedReady s rows held) where
   pub well-formed : accepted s ≡ true
   well-formed = rw (n .well)
 
@@ -79,7 +67,7 @@ module _ (s : List ℕ) (rows : ℕ) (held : List ℕ) (n : Noted s rows held) w
   pub noted-at : (i : ℕ) → i < rows → getD held i 0 ≡ getD (places s) i 0
   noted-at i h = sym (getD-take rows held i 0 h) ∙ ap (λ (p : List ℕ). getD p i 0) (n .noted)
 
-  pub stands : (i : ℕ) → i < rows → RowThere s (getD held i 0)
+  pub stands : (i : ℕ) → i < rows → RowAtReady s (getD held i 0)
   stands i h = rw (noted-at i h) (row-stands s well-formed i (rw (n .well) h))
 
   -- the rows that are left, where there are some: the next one is selected or not, and then the others
@@ -97,7 +85,7 @@ selected-some : (o : Option Tree) (rows : List Row) → selectedBy o (some rows)
 selected-some none rows = sym (none-held 0 rows)
 selected-some (some t) rows = refl
 
-module _ (tree s : List ℕ) (rows : ℕ) (held : List ℕ) (n : Noted s rows held) where
+module _ (tree s : List ℕ) (rows : ℕ) (held : List ℕ) (n : NotedReady s rows held) where
   pub selected-is : selected tree s ≡ left tree s 0
   selected-is = rw (catalogue-agrees s, well-formed s rows held n) (selected-some (restriction tree) (map (rowSeen s) (places s)))
 
@@ -119,7 +107,7 @@ module _ (tree s : List ℕ) (rows : ℕ) (held : List ℕ) (n : Noted s rows he
 
 -- what the check of a catalogue leaves of the array that it was lent
 pub noted-by-check : (s before after : List ℕ) (r : Checked) → r ≡ checked s → r .refusal ≡ 0 → after ≡ noted s before → rowsMost ≤ length before
-    → Noted s (r .rows) after
+    → NotedReady s (r .rows) after
 noted-by-check s before after r e zero-is laid room =
     let well : checked s ≡ record { refusal = 0; rows = r .rows } = sym e ∙ with-rows r zero-is in
     let counts = rows-counted s (rw well) ∙ ap (λ (c : Checked). c .rows) well in

@@ -1,7 +1,6 @@
 -- Worked selections, by computation, of the two rows of 01's whole case ("Numbers to check against"). Assumes nothing.
 use mathlib.Core.Path.{_≡_, refl}
-use mathlib.Core.List.{List, [], _∷_}
-use Prim.Native.Nat.{ℕ}
+use mathlib.Core.List.{[], _∷_}
 use Rattle.lists.specs.Below.{someBelow, everyBelow}
 use Rattle.wire.specs.Word.{number, numberAt, le, halves}
 use Rattle.catalogue.specs.Groups.{groups}
@@ -14,27 +13,24 @@ use Rattle.wire.specs.PropertySpec.{setOurs, propertyAt}
 use Rattle.tree.specs.Parts.{phraseAt, contentAt, relationAt}
 use Rattle.tree.specs.TreeHolds.{says}
 use Rattle.tree.specs.Reader.{readTree, restriction}
-use Rattle.tree.proofs.TreeVectors.{related, phrased, nots}
+use Rattle.tree.specs.Examples.{related, phrased, nots}
 use Rattle.tree.specs.Select.{numbersFrom, selected}
+use Rattle.catalogue.specs.Examples.{caseBytes}
 
--- a row of key 300 with the label "OK", and one of key 1; neither has a note
-abbrev pub two-rows : List ℕ
-two-rows = 0x02 ∷ 0xAC ∷ 0x02 ∷ 0x87 ∷ 0x08 ∷ 0x05 ∷ 0x03 ∷ 0x4F ∷ 0x00 ∷ 0x4B ∷ 0x00 ∷ 0x00 ∷ 0x01 ∷ 0x00 ∷ 0x00 ∷ 0x00 ∷ 0x00 ∷ []
-
-pub numbers-selected : (selected (related 4 2 300) two-rows ≡ 0 ∷ [])
-    × (selected (nots 1 (related 4 2 300)) two-rows ≡ 1 ∷ [])
-    × (selected (related 3 2 0) two-rows ≡ 0 ∷ 1 ∷ [])
-    × (selected (related 2 3 1031) two-rows ≡ [])
+pub numbers-selected : (selected (related 4 2 300) caseBytes ≡ 0 ∷ [])
+    × (selected (nots 1 (related 4 2 300)) caseBytes ≡ 1 ∷ [])
+    × (selected (related 3 2 0) caseBytes ≡ 0 ∷ 1 ∷ [])
+    × (selected (related 2 3 1031) caseBytes ≡ [])
 unfolding catalogue rows row text Groups.number groups halves everyBelow restriction readTree relationAt propertyAt setOurs zeroAt numberAt number le says numbersFrom
 numbers-selected = (refl, refl, refl, refl)
 
 -- "Absent text holds no phrase; a not above it is true"
-pub texts-selected : (selected (phrased 5 (0x4F ∷ 0x4B ∷ []) [] 0) two-rows ≡ 0 ∷ [])
-    × (selected (nots 1 (phrased 6 (0x4F ∷ 0x4B ∷ []) [] 0)) two-rows ≡ 0 ∷ 1 ∷ [])
+pub texts-selected : (selected (phrased 5 (0x4F ∷ 0x4B ∷ []) [] 0) caseBytes ≡ 0 ∷ [])
+    × (selected (nots 1 (phrased 6 (0x4F ∷ 0x4B ∷ []) [] 0)) caseBytes ≡ 0 ∷ 1 ∷ [])
 unfolding catalogue rows row text Groups.number groups halves everyBelow restriction readTree contentAt phraseAt propertyAt setOurs zeroAt numberAt number le unitBytes says occurs occursAt standsAt startsWord endsWord someBelow numbersFrom
 texts-selected = (refl, refl)
 
 -- bytes that hold no tree select nothing
-pub no-tree-selected : selected [] two-rows ≡ []
+pub no-tree-selected : selected [] caseBytes ≡ []
 unfolding restriction readTree
 no-tree-selected = refl

@@ -19,7 +19,7 @@ use Rattle.tree.specs.Parts.{nodeKind}
 use Rattle.tree.specs.Reader.{TreeRead, ForestRead, Read, readList, joined, branchRead, negated, notRead, leafRead, readNode, readTree}
 use Rattle.tree.specs.Kinds.{isBranch}
 use Rattle.lists.specs.Options.{andThen}
-use Rattle.tree.specs.Answer.{nodeAnswer, nodeUsed, listAnswer, listUsed, notAnswer, branchAnswer, moreAnswer}
+use Rattle.tree.specs.NodeTold.{nodeAnswer, nodeUsed, listAnswer, listUsed, notAnswer, branchAnswer, moreAnswer}
 use Rattle.tree.specs.declared.NodeRead.{NodeRead}
 use Rattle.tree.specs.declared.NodeRead.the-variants.{Node, NoNode}
 use Rattle.tree.specs.declared.ListRead.{ListRead}

@@ -5,7 +5,6 @@ use mathlib.Core.Bool.{Bool, true, false}
 use mathlib.Core.List.{List, [], _∷_, _++_}
 use mathlib.Core.Option.{Option, none, some}
 use Prim.Native.Nat.{ℕ, zero, suc}
-use lib.ListN.{length}
 use Rattle.lists.specs.Below.{someBelow, everyBelow}
 use Rattle.wire.specs.Word.{number, numberAt, le, halves}
 use Rattle.catalogue.specs.Plain.{Row}
@@ -17,42 +16,13 @@ use Rattle.wire.specs.PropertySpec.{setOurs, propertyAt}
 use Rattle.tree.specs.Parts.{phraseAt, contentAt, relationAt}
 use Rattle.tree.specs.Tree.{Tree, leaf, and, or, not, end, further}
 use Rattle.tree.specs.TreeHolds.{says, holds}
-use Rattle.tree.specs.Reader.{readList, readTree, restriction}
-use Rattle.tree.specs.Answer.{isTree}
+use Rattle.tree.specs.Reader.{readList, readTree, restriction, isTree}
+use Rattle.wire.specs.Examples.{spec}
+use Rattle.tree.specs.Examples.{start, re-start, head, related, phrased, several, nots, times}
 
--- _ulType and a weight; a property of ours
-abbrev pub head : ℕ → List ℕ
-head kind = le 4 kind ++ le 4 1000
-
-abbrev pub spec : ℕ → List ℕ
-spec property =
-    0x10 ∷ 0x11 ∷ 0x12 ∷ 0x13 ∷ 0x14 ∷ 0x15 ∷ 0x16 ∷ 0x17 ∷ 0x18 ∷ 0x19 ∷ 0x1a ∷ 0x1b ∷ 0x1c ∷ 0x1d ∷ 0x1e ∷ 0x1f ∷ le 4 1 ++ le 4 property
-
--- a property leaf; a content leaf, with the padding after its units
-abbrev pub related : ℕ → ℕ → ℕ → List ℕ
-related relop property value = head 5 ++ (le 4 relop ++ (spec property ++ (le 2 0x13 ++ (le 2 0 ++ le 4 value))))
-
-abbrev pub phrased : ℕ → List ℕ → List ℕ → ℕ → List ℕ
-phrased property units pad method = head 4 ++ (spec property ++ (le 4 (length units) ++ (unitBytes units ++ (pad ++ (le 4 1033 ++ le 4 method)))))
-
--- an and or an or of some children; nots around a tree; a tree some times
-abbrev pub several : ℕ → ℕ → List ℕ → List ℕ
-several kind count children = head kind ++ (le 4 count ++ children)
-
-abbrev pub nots : ℕ → List ℕ → List ℕ
-nots zero s = s
-nots (suc n) s = head 3 ++ nots n s
-
-abbrev pub times : ℕ → List ℕ → List ℕ
-times zero s = []
-times (suc n) s = s ++ times n s
-
--- "start", and a row whose label is "re start" and which has no note
-abbrev pub start : List ℕ
-start = 115 ∷ 116 ∷ 97 ∷ 114 ∷ 116 ∷ []
-
+-- a row whose label is "re start" and which has no note
 abbrev pub row : Row
-row = record { key = 300; language = 1031; default = 5; label = some (114 ∷ 101 ∷ 32 ∷ start); note = none }
+row = record { key = 300; language = 1031; default = 5; label = some re-start; note = none }
 
 abbrev pub units : ℕ → List ℕ
 units zero = []

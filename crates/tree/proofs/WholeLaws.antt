@@ -9,8 +9,8 @@ use lib.Dec.{eqb}
 use lib.ListN.{length}
 use Rattle.lists.proofs.Below.{by-test}
 use Rattle.tree.specs.Limits.{bytesMost, nodesMost, levelsMost}
-use Rattle.tree.specs.Reader.{TreeRead, readTree, restriction}
-use Rattle.tree.specs.Answer.{nodeAnswer, isTree}
+use Rattle.tree.specs.Reader.{TreeRead, readTree, restriction, isTree}
+use Rattle.tree.specs.NodeTold.{nodeAnswer}
 use Rattle.tree.specs.declared.NodeRead.the-variants.{Node, NoNode}
 use Rattle.tree.proofs.TreeLaws.{node-inv, no-node-inv}
 

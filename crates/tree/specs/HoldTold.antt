@@ -5,7 +5,7 @@ use mathlib.Core.List.{List}
 use Prim.Native.Nat.{ℕ, _+_}
 use lib.ListN.{drop}
 use Rattle.catalogue.specs.Plain.{Row}
-use Rattle.catalogue.specs.Places.{textOf}
+use Rattle.catalogue.specs.CataloguePlaces.{textOf}
 use Rattle.catalogue.specs.declared.Fields.{Fields}
 use Rattle.tree.specs.VerdictTold.{told}
 use Rattle.wire.specs.Property.{ofNumbers, ofTexts}

@@ -13,6 +13,7 @@ use Rattle.wire.specs.Padding.{padding, zeroAt}
 use Rattle.tree.specs.Parts.{nodeKind, leafAt, withLeaf, leafOf}
 use Rattle.tree.specs.Kinds.{headSize, listHead, isBranch, andKind, notKind}
 use Rattle.lists.specs.Options.{andThen}
+use mathlib.Core.Bool.{Bool, true, false}
 
 -- what was read: the tree or the children, the bytes that they take, and how many nodes may still come
 pub record TreeRead : Type 0 where
@@ -90,3 +91,8 @@ unfoldable pub restriction : List ℕ → Option Tree
 restriction s =
     let read : Option Tree = andThen (readTree levelsMost nodesMost 0 s) (whole s) in
     pick (leb (length s) bytesMost) read none
+
+-- whether there is a tree; 16 "restriction malformed or over a limit" is where there is none
+abbrev pub isTree : Option Tree → Bool
+isTree none = false
+isTree (some t) = true

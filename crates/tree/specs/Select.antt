@@ -1,11 +1,9 @@
 -- The rows that a tree selects: their numbers, counted from 0 in the catalogue's order (01, "What the base serves": "row numbers of each
 -- selection"; "Restriction trees").
 use mathlib.Core.Bool.{Bool}
-use mathlib.Core.List.{List, [], _∷_, _++_}
+use mathlib.Core.List.{List, [], _∷_}
 use mathlib.Core.Option.{Option, none, some}
-use mathlib.Core.Path.{_≡_}
 use Prim.Native.Nat.{ℕ, _+_}
-use lib.ListN.{length, drop}
 use Rattle.lists.specs.Below.{pick}
 use Rattle.catalogue.specs.Plain.{Row, catalogue}
 use Rattle.tree.specs.Tree.{Tree}
@@ -29,8 +27,3 @@ selectedBy (some t) (some rows) = selection t rows
 
 abbrev pub selected : List ℕ → List ℕ → List ℕ
 selected tree s = selectedBy (restriction tree) (catalogue s)
-
--- a list of words that begins with the selection, and has after it what it had, and the count of the selection
-pub record Selected (tree s before : List ℕ) (count : ℕ) (after : List ℕ) : Type 0 where
-  pub counted : count ≡ length (selected tree s)
-  pub laid : after ≡ selected tree s ++ drop (length (selected tree s)) before

@@ -4,14 +4,13 @@ ghost use mathlib.Core.Path.{_≡_};
 ghost use mathlib.Core.Bool.{true};
 ghost use Prim.Native.Nat.{_+_, _≤_};
 ghost use lib.ListN.{length, drop};
-ghost use Rattle.catalogue.specs.Places.{rowOf};
-ghost use Rattle.tree.specs.Inside.{RowInside};
+ghost use Rattle.catalogue.specs.CataloguePlaces.{rowOf};
+ghost use Rattle.catalogue.specs.CatalogueReady.{FieldsReady};
 ghost use Rattle.tree.specs.TreeHolds.{heldBy};
-ghost use Rattle.tree.specs.Reader.{restriction};
-ghost use Rattle.tree.specs.Answer.{isTree};
+ghost use Rattle.tree.specs.Reader.{restriction, isTree};
 ghost use Rattle.tree.specs.LeafPlaces.{localeAt};
 ghost use Rattle.tree.specs.HoldTold.{relationTold, contentTold, leafTold};
-ghost use Rattle.tree.specs.There.{LeafThere, NodeThere, NodeTold, ListThere, ListTold};
+ghost use Rattle.tree.specs.HoldReady.{LeafReady, NodeReady, NodeTold, ListReady, ListTold};
 use catalogue::Fields;
 
 // Where the number of a leaf's property stands.
@@ -36,7 +35,7 @@ fn relation_told(tree: &[u8], at: usize, row: Fields) -> usize
 
 // The content leaf at a place.
 fn content_told(tree: &[u8], at: usize, catalogue: &[u8], row: Fields) -> usize
-    requires { ⌜ (at + (localeAt (drop at (now tree)) at + 8) ≤ length (now tree)) × RowInside (now catalogue) row ⌝ }
+    requires { ⌜ (at + (localeAt (drop at (now tree)) at + 8) ≤ length (now tree)) × FieldsReady (now catalogue) row ⌝ }
     ensures { λ r. ⌜ r ≡ contentTold (now (tree .entry)) at (now (catalogue .entry)) row ⌝ }
 {
     let property = wire_word::word(tree, at + CONTENT_PROPERTY_AT);
@@ -53,7 +52,7 @@ fn content_told(tree: &[u8], at: usize, catalogue: &[u8], row: Fields) -> usize
 
 // The leaf of a kind at a place.
 fn leaf_told(kind: u32, tree: &[u8], at: usize, catalogue: &[u8], row: Fields) -> usize
-    requires { ⌜ LeafThere kind (now tree) at × RowInside (now catalogue) row ⌝ }
+    requires { ⌜ LeafReady kind (now tree) at × FieldsReady (now catalogue) row ⌝ }
     ensures { λ r. ⌜ r ≡ leafTold kind (now (tree .entry)) at (rowOf (now (catalogue .entry)) row) ⌝ }
 {
     if kind == tree::CONTENT {
@@ -64,7 +63,7 @@ fn leaf_told(kind: u32, tree: &[u8], at: usize, catalogue: &[u8], row: Fields) -
 
 // The node at a place.
 fn node_told(tree: &[u8], at: usize, levels: u32, catalogue: &[u8], row: Fields) -> usize
-    requires { ⌜ NodeThere (now tree) at levels × RowInside (now catalogue) row ⌝ }
+    requires { ⌜ NodeReady (now tree) at levels × FieldsReady (now catalogue) row ⌝ }
     ensures { λ r. ⌜ NodeTold (now (tree .entry)) at levels (rowOf (now (catalogue .entry)) row) r ⌝ }
 {
     let kind = wire_word::word(tree, at);
@@ -81,7 +80,7 @@ fn node_told(tree: &[u8], at: usize, levels: u32, catalogue: &[u8], row: Fields)
 
 // The and or the or at a place, child by child.
 fn list_told(kind: u32, tree: &[u8], at: usize, levels: u32, catalogue: &[u8], row: Fields) -> usize
-    requires { ⌜ ListThere kind (now tree) at levels × RowInside (now catalogue) row ⌝ }
+    requires { ⌜ ListReady kind (now tree) at levels × FieldsReady (now catalogue) row ⌝ }
     ensures { λ r. ⌜ ListTold kind (now (tree .entry)) at levels (rowOf (now (catalogue .entry)) row) r ⌝ }
 {
     let mut left = wire_word::word(tree, at + tree::HEAD_SIZE);
@@ -99,7 +98,7 @@ fn list_told(kind: u32, tree: &[u8], at: usize, levels: u32, catalogue: &[u8], r
 
 // Whether a tree holds for a row. Most trees are a list at their root.
 pub fn holds(tree: &[u8], catalogue: &[u8], row: Fields) -> bool
-    requires { ⌜ (isTree (restriction (now tree)) ≡ true) × RowInside (now catalogue) row ⌝ }
+    requires { ⌜ (isTree (restriction (now tree)) ≡ true) × FieldsReady (now catalogue) row ⌝ }
     ensures { λ r. ⌜ r ≡ heldBy (restriction (now (tree .entry))) (rowOf (now (catalogue .entry)) row) ⌝ }
 {
     let kind = wire_word::word(tree, 0);

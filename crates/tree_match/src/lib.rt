@@ -1,10 +1,10 @@
 // What a leaf says of a row: how the row's number relates to the leaf's, and whether the row's text holds the leaf's phrase.
 ghost use mathlib.Core.Path.{_≡_};
 ghost use Rattle.wire.specs.Word.{halves};
-ghost use Rattle.catalogue.specs.Places.{textOf};
+ghost use Rattle.catalogue.specs.CataloguePlaces.{textOf};
 ghost use Rattle.wire.specs.Property.{ofNumbers, ofTexts};
 ghost use Rattle.tree.specs.LeafHolds.{relationHolds, phraseHolds};
-ghost use Rattle.tree.specs.Inside.{TextInside};
+ghost use Rattle.catalogue.specs.CatalogueReady.{UnitsReady};
 use catalogue::Fields;
 use catalogue::Text;
 
@@ -45,7 +45,7 @@ pub fn text_of(property: u32, row: Fields) -> Text
 
 // Whether a phrase occurs in a text.
 pub fn phrase_holds(phrase: &[u8], method: u32, catalogue: &[u8], text: Text) -> bool
-    requires { ⌜ TextInside (now catalogue) text ⌝ }
+    requires { ⌜ UnitsReady (now catalogue) text ⌝ }
     ensures { λ r. ⌜ r ≡ phraseHolds method (halves (now (phrase .entry))) (textOf (now (catalogue .entry)) text) ⌝ }
 {
     if text.size == 0 {

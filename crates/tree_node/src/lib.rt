@@ -5,7 +5,7 @@ ghost use lib.ListN.{length};
 ghost use Rattle.tree.specs.Reader.{leafRead, branchRead, readTree, readList};
 ghost use Rattle.tree.specs.Kinds.{isBranch};
 ghost use Rattle.tree.specs.Kinds.{isBranch};
-ghost use Rattle.tree.specs.Answer.{nodeAnswer, nodeUsed, listAnswer, listUsed, notAnswer, branchAnswer, moreAnswer};
+ghost use Rattle.tree.specs.NodeTold.{nodeAnswer, nodeUsed, listAnswer, listUsed, notAnswer, branchAnswer, moreAnswer};
 use tree::LeafAt;
 use tree::ListRead;
 use tree::NodeRead;

@@ -1,7 +1,6 @@
 // The restriction tree as a whole: whether bytes hold one and no more.
 ghost use mathlib.Core.Path.{_≡_};
-ghost use Rattle.tree.specs.Reader.{restriction};
-ghost use Rattle.tree.specs.Answer.{isTree};
+ghost use Rattle.tree.specs.Reader.{restriction, isTree};
 use tree::NodeRead;
 
 // Whether the bytes hold a tree.

@@ -4,17 +4,17 @@ ghost use mathlib.Core.Bool.{true};
 ghost use Prim.Native.Nat.{_≤_};
 ghost use lib.ListN.{length};
 ghost use Rattle.catalogue.specs.Limits.{rowsMost};
-ghost use Rattle.catalogue.specs.Places.{RowThere, rowSeen};
+ghost use Rattle.catalogue.specs.CataloguePlaces.{rowSeen};
+ghost use Rattle.catalogue.specs.CatalogueReady.{RowAtReady};
 ghost use Rattle.tree.specs.TreeHolds.{heldBy};
-ghost use Rattle.tree.specs.Reader.{restriction};
-ghost use Rattle.tree.specs.Answer.{isTree};
-ghost use Rattle.tree.specs.Select.{Selected};
-ghost use Rattle.tree.specs.Noted.{Noted};
+ghost use Rattle.tree.specs.Reader.{restriction, isTree};
+ghost use Rattle.tree.specs.SelectTold.{Selected};
+ghost use Rattle.tree.specs.SelectReady.{NotedReady};
 use catalogue::RowAt;
 
 // Whether the tree holds for the row at a place.
 fn holds_at(tree: &[u8], catalogue: &[u8], place: u32) -> bool
-    requires { ⌜ (isTree (restriction (now tree)) ≡ true) × RowThere (now catalogue) place ⌝ }
+    requires { ⌜ (isTree (restriction (now tree)) ≡ true) × RowAtReady (now catalogue) place ⌝ }
     ensures { λ r. ⌜ r ≡ heldBy (restriction (now (tree .entry))) (rowSeen (now (catalogue .entry)) place) ⌝ }
 {
     let RowAt::RowTo(row, _) = catalogue_row::row_again(catalogue, place as usize) else {
@@ -32,7 +32,7 @@ pub fn select(
     places: &[u32; catalogue::ROWS_MOST],
     into: &mut [u32],
 ) -> u32
-    requires { ⌜ (isTree (restriction (now tree)) ≡ true) × Noted (now catalogue) rows (now places) × (rowsMost ≤ length (now into)) ⌝ }
+    requires { ⌜ (isTree (restriction (now tree)) ≡ true) × NotedReady (now catalogue) rows (now places) × (rowsMost ≤ length (now into)) ⌝ }
     ensures { λ r. ⌜ Selected (now (tree .entry)) (now (catalogue .entry)) (now (into .entry)) r (now (into .exit)) ⌝ }
 {
     let mut count: u32 = 0;

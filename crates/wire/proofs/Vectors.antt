@@ -1,17 +1,9 @@
 -- The numbers M5 to M7 of 01, as theorems of the definition: the checksum of a header with each body.
 use mathlib.Core.Path.{_≡_, refl}
-use mathlib.Core.List.{List, [], _∷_, _++_}
-use Prim.Native.Nat.{ℕ}
+use mathlib.Core.List.{[], _∷_}
 use Rattle.wire.specs.Word.{number, numberAt, le}
 use Rattle.wire.specs.Checksum.{sumOfWords, bodySum, checksum}
-
--- a message: its number, three words that the checksum does not read, and the words of its body
-abbrev pub wordsOf : List ℕ → List ℕ
-wordsOf [] = []
-wordsOf (w ∷ ws) = le 4 w ++ wordsOf ws
-
-abbrev pub messageOf : ℕ → List ℕ → List ℕ
-messageOf msg body = wordsOf (msg ∷ 0 ∷ 0 ∷ 0 ∷ body)
+use Rattle.wire.specs.Examples.{messageOf}
 
 -- "empty body, set bindings: 0x59533889"
 pub m5 : checksum (messageOf 0xd0 []) ≡ 0x59533889

@@ -6,3 +6,4 @@ pub mod Property
 pub mod PropertySpec
 pub mod FieldPlaces
 pub mod Laid
+pub mod Examples

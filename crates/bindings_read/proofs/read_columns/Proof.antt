@@ -6,7 +6,7 @@ use native.Mathlib.Omega.{arith}
 use Prim.Native.Nat.{ℕ, _+_, _-_}
 use mathlib.Core.Path.{_≡_, refl, sym, ap, _∙_}
 use lib.ListN.{length}
-use Rattle.bindings.specs.Bindings.{columnsAt, columnsOn, keeping}
+use Rattle.bindings.specs.BindingsPlaces.{columnsAt, columnsOn, keeping}
 use Rattle.bindings.proofs.Bindings.{columns-unpadded, columns-broken, columns-more, keeping-more, keeping-end}
 use mathlib.Core.List.{List}
 

@@ -4,7 +4,7 @@ use Rattle.bindings_read.proofs.spot_on.Statement.{statement}
 use Rattle.bindings_read.proofs.spot_on.Tie as tie
 use mathlib.Core.Path.{sym, _∙_}
 use borrow.Author.Tests.{eq-eqb, ne-eqb}
-use Rattle.bindings.specs.Wire.{spotOn}
+use Rattle.bindings.specs.ColumnPlaces.{spotOn}
 
 flag-on-requires : tie.Need-flag-on-requires
 flag-on-requires c κs = search needs

@@ -4,7 +4,7 @@ use Rattle.bindings_read.proofs.value_on.Statement.{statement}
 use Rattle.bindings_read.proofs.value_on.Tie as tie
 use mathlib.Core.Path.{sym, _∙_}
 use borrow.Author.Tests.{eq-eqb, ne-eqb}
-use Rattle.bindings.specs.Wire.{valueOn}
+use Rattle.bindings.specs.ColumnPlaces.{valueOn}
 
 spot-on-requires : tie.Need-spot-on-requires
 spot-on-requires c κs = search needs

@@ -7,7 +7,7 @@ use mathlib.Core.Path.{_≡_, sym, _∙_, ap}
 use native.Mathlib.Omega.{arith}
 use Rattle.lists.specs.Every.{every}
 use Rattle.bindings.specs.Fit.{inside}
-use Rattle.bindings.specs.Spans.{spansFrom}
+use Rattle.bindings.specs.SpanPlaces.{spansFrom}
 use Rattle.lists.proofs.Every.{every-none}
 use Rattle.bindings.proofs.Spans.{inside-none, each-more, spans-none, each-stop}
 use borrow.Author.Tests.{le-leb, lt-leb}

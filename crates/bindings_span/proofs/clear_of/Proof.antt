@@ -8,7 +8,7 @@ use native.Mathlib.Omega.{arith}
 use borrow.Author.Tests.{not-true, not-false}
 use Rattle.lists.specs.Every.{every}
 use Rattle.bindings.specs.Fit.{apart}
-use Rattle.bindings.specs.Spans.{spansFrom}
+use Rattle.bindings.specs.SpanPlaces.{spansFrom}
 use Rattle.lists.proofs.Every.{every-none}
 use Rattle.bindings.proofs.Spans.{apart-none, each-more, each-stop, spans-none}
 

@@ -8,7 +8,7 @@ use native.Mathlib.Omega.{arith}
 use borrow.Author.Tests.{not-true, not-false}
 use Rattle.lists.specs.Every.{every, pairwise}
 use Rattle.bindings.specs.Fit.{apart}
-use Rattle.bindings.specs.Spans.{spansFrom}
+use Rattle.bindings.specs.SpanPlaces.{spansFrom}
 use Rattle.bindings.specs.declared.Span.{Span}
 use Rattle.lists.proofs.Every.{pair-none}
 use Rattle.bindings.proofs.Spans.{two-more, two-stop, spans-none}

@@ -18,7 +18,7 @@ use mathlib.Core.List.{List}
 use Rattle.table.specs.Seat.{opened, cursorWords}
 use Rattle.tree.specs.Select.{selected}
 use Rattle.query.specs.Open.{openedOn}
-use Rattle.query.specs.Answer.{handleFor}
+use Rattle.query.specs.OpenTold.{handleFor}
 use Rattle.query.proofs.OpenLaws.{open-tree}
 use Rattle.call.proofs.Seating.{seated-is}
 

@@ -6,7 +6,7 @@ use mathlib.Core.Path.{_≡_, sym, _∙_}
 use Prim.Native.Nat.{_+_, _≤_}
 use lib.ListN.{length}
 use lib.Seq.{sets}
-use Rattle.catalogue.specs.Places.{rowsEnd, placesFrom}
+use Rattle.catalogue.specs.CataloguePlaces.{rowsEnd, placesFrom}
 use Rattle.catalogue.proofs.RowLaws.{row-inside}
 use Rattle.catalogue.proofs.RowsLaws.{row-gone, row-there, rows-more, rows-bad, places-more, places-bad, rows-none, places-none}
 

@@ -3,7 +3,7 @@ use borrow.Author.Needs.{needs}
 use Rattle.catalogue_end.proofs.row_end.Statement.{statement}
 use Rattle.catalogue_end.proofs.row_end.Tie as tie
 use mathlib.Core.Path.{sym, _∙_}
-use Rattle.catalogue.specs.Places.{rowAt}
+use Rattle.catalogue.specs.CataloguePlaces.{rowAt}
 use Rattle.catalogue.proofs.EndLaws.{text-gone, row-ends}
 
 read-requires : tie.Need-read-requires

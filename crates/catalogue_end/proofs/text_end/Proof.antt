@@ -5,7 +5,7 @@ use Rattle.catalogue_end.proofs.text_end.Tie as tie
 use mathlib.Core.Path.{sym, _∙_}
 use native.Mathlib.Omega.{arith}
 use Rattle.catalogue.proofs.Inside.{reading-read}
-use Rattle.catalogue.specs.Places.{textAt}
+use Rattle.catalogue.specs.CataloguePlaces.{textAt}
 use Rattle.catalogue.proofs.TextLaws.{end-short, end-clear, end-zero}
 
 read-requires : tie.Need-read-requires

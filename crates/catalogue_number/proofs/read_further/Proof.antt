@@ -7,7 +7,7 @@ use Prim.Native.Nat.{_+_, _*_, _-_, _/_, _≤_}
 use native.Mathlib.Omega.{arith}
 use lib.ListN.{length, drop, getD}
 use Rattle.catalogue.specs.Groups.{groups, further, within}
-use Rattle.catalogue.specs.Reading.{placed}
+use Rattle.catalogue.specs.NumberPlaces.{placed}
 use Rattle.catalogue.proofs.Carry.{carry, added-fits, room-kept, weight-fits, begin-over, begin-full, carry-begin, carry-zero, carry-last-over, carry-last, carry-group-over, carry-group, carry-end, carry-group-full}
 
 abbrev Inv-loop : tie.InvT-loop

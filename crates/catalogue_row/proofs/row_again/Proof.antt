@@ -3,7 +3,7 @@ use borrow.Author.Needs.{needs}
 use Rattle.catalogue_row.proofs.row_again.Statement.{statement}
 use Rattle.catalogue_row.proofs.row_again.Tie as tie
 use mathlib.Core.Path.{sym, _∙_}
-use Rattle.catalogue.specs.Places.{rowAt}
+use Rattle.catalogue.specs.CataloguePlaces.{rowAt}
 use Rattle.catalogue.proofs.RowLaws.{label-there, note-there}
 
 read-requires : tie.Need-read-requires

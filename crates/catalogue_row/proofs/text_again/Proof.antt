@@ -5,7 +5,7 @@ use Rattle.catalogue_row.proofs.text_again.Tie as tie
 use mathlib.Core.Path.{sym, ap, _∙_}
 use native.Mathlib.Omega.{arith}
 use Rattle.catalogue.proofs.Inside.{reading-read}
-use Rattle.catalogue.specs.Places.{textAt}
+use Rattle.catalogue.specs.CataloguePlaces.{textAt}
 use Rattle.catalogue.specs.declared.TextAt.the-variants.{TextTo}
 use Rattle.catalogue.proofs.RowLaws.{text-known}
 

@@ -3,14 +3,14 @@ use mathlib.Core.Path.{_≡_}
 use Prim.Native.Nat.{_≤_, _-_}
 use native.Mathlib.Omega.{arith}
 use lib.ListN.{length}
-use Rattle.line.specs.LineRoom.{Stands}
+use Rattle.line.specs.PlaceReady.{PlaceReady}
 use borrow.Author.Needs.{needs}
 use Rattle.file_serve.proofs.serve_chunk.Statement.{statement}
 use Rattle.file_serve.proofs.serve_chunk.Tie as tie
 
 abbrev Inv-loop : tie.InvT-loop
 Inv-loop chunk line₀ table₀ catalogue₀ out₀ here₀ at₀ line table catalogue out here at =
-    (at ≤ length chunk) × Stands (length line) here × (length line ≡ length line₀) × (length table ≡ length table₀) × (length catalogue ≡ length catalogue₀)
+    (at ≤ length chunk) × PlaceReady (length line) here × (length line ≡ length line₀) × (length table ≡ length table₀) × (length catalogue ≡ length catalogue₀)
     × (length out ≡ length out₀)
 
 abbrev μ-loop : tie.MeasureT-loop

@@ -1,14 +1,14 @@
 -- Between two reads the buffers have their lengths, and the place stands. Assumes nothing.
 use mathlib.Core.Path.{_≡_}
 use lib.ListN.{length}
-use Rattle.line.specs.LineRoom.{Stands}
+use Rattle.line.specs.PlaceReady.{PlaceReady}
 use borrow.Author.Needs.{needs}
 use Rattle.file_serve.proofs.serve_file.Statement.{statement}
 use Rattle.file_serve.proofs.serve_file.Tie as tie
 
 abbrev Inv-loop : tie.InvT-loop
 Inv-loop fd path chunk₀ line₀ table₀ catalogue₀ out₀ place₀ turns₀ feed chunk line table catalogue out place turns =
-    Stands (length line) place × (length chunk ≡ length chunk₀) × (length line ≡ length line₀) × (length table ≡ length table₀) × (length catalogue ≡ length catalogue₀)
+    PlaceReady (length line) place × (length chunk ≡ length chunk₀) × (length line ≡ length line₀) × (length table ≡ length table₀) × (length catalogue ≡ length catalogue₀)
     × (length out ≡ length out₀)
 
 abbrev μ-loop : tie.MeasureT-loop

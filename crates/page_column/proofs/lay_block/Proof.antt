@@ -4,7 +4,7 @@ use Rattle.page_column.proofs.lay_block.Statement.{statement}
 use Rattle.page_column.proofs.lay_block.Tie as tie
 use Rattle.wire.specs.Laid.{lays}
 use Rattle.page.specs.Cell.{blockSpan}
-use Rattle.page.specs.Field.{fieldSeen}
+use Rattle.page.specs.FieldPlaces.{fieldSeen}
 use Rattle.page.proofs.Fields.{laid-unused, block-laid, block-fits}
 
 returns : tie.Need-returns

@@ -5,7 +5,7 @@ use Rattle.page_column.proofs.lay_value.Tie as tie
 use Prim.Native.Nat.{_+_}
 use native.Mathlib.Omega.{arith}
 use borrow.Author.Tests.{eq-eqb, ne-eqb}
-use Rattle.page.specs.Cell.{cellBytes}
+use Rattle.page.specs.FieldPlaces.{cellBytes}
 use Rattle.page.proofs.Fields.{laid-unused, laid-used, variant-size, plain-size}
 
 returns : tie.Need-returns

@@ -6,7 +6,7 @@ use mathlib.Core.Path.{_≡_, refl, sym, ap, _∙_}
 use Prim.Native.Nat.{_+_, _-_, _≤_}
 use native.Mathlib.Omega.{arith}
 use lib.ListN.{length}
-use Rattle.catalogue.specs.Places.{rowOf}
+use Rattle.catalogue.specs.CataloguePlaces.{rowOf}
 use Rattle.bindings.specs.Column.{columnsFrom, columnsOf}
 use Rattle.bindings.specs.declared.Column.{Column}
 use Rattle.wire.specs.Laid.{lays}

@@ -4,7 +4,8 @@ use Rattle.page_row.proofs.room_of.Statement.{statement}
 use Rattle.page_row.proofs.room_of.Tie as tie
 use Rattle.page.specs.Rows.{blocks}
 use Rattle.bindings.specs.Column.{columnsOf}
-use Rattle.catalogue.specs.Places.{RowThere, rowSeen}
+use Rattle.catalogue.specs.CataloguePlaces.{rowSeen}
+use Rattle.catalogue.specs.CatalogueReady.{RowAtReady}
 use Prim.Native.Nat.{ℕ, _+_}
 use mathlib.Core.Path.{sym, ap, subst, _∙_}
 
@@ -12,7 +13,7 @@ place-of-requires : tie.Need-place-of-requires
 place-of-requires c κs = search needs
 
 fields-at-requires : tie.Need-fields-at-requires
-fields-at-requires c κs = let a = c .before .before .before .before .args in subst (RowThere (a .catalogue .now)) (sym (c .place-of .ensures)) (c .before .before .before .before .pre .2)
+fields-at-requires c κs = let a = c .before .before .before .before .args in subst (RowAtReady (a .catalogue .now)) (sym (c .place-of .ensures)) (c .before .before .before .before .pre .2)
 
 row-blocks-requires : tie.Need-row-blocks-requires
 row-blocks-requires c κs = search needs

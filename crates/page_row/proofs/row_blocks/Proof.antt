@@ -5,7 +5,7 @@ use borrow.Author.Needs.{needs}
 use mathlib.Core.Path.{_≡_, ap, _∙_}
 use Prim.Native.Nat.{_+_, _*_, _≤_}
 use native.Mathlib.Omega.{arith}
-use Rattle.catalogue.specs.Places.{rowOf}
+use Rattle.catalogue.specs.CataloguePlaces.{rowOf}
 use Rattle.bindings.specs.Column.{columnsFrom, columnsOf}
 use Rattle.bindings.specs.declared.Column.{Column}
 use Rattle.page.specs.Cell.{blockRoom}

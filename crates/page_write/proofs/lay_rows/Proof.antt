@@ -4,7 +4,8 @@ use Rattle.page_write.proofs.lay_rows.Statement.{statement}
 use Rattle.page_write.proofs.lay_rows.Tie as tie
 use Rattle.page.proofs.FillSteps.{rows-none, returned-start, returned-asked, returned-left, count-full, count-step, lay-step, lay-done, lay-start}
 use Rattle.page.proofs.RowsBound.{column-in, there-at}
-use Rattle.page.specs.Rows.{rowsAt, returned, rowsSpans}
+use Rattle.page.specs.Rows.{returned, rowsSpans}
+use Rattle.page.specs.RowPlaces.{rowsAt}
 use Rattle.wire.specs.Laid.{lays}
 use Rattle.bindings.specs.Column.{columnAt, columnsOf}
 use lib.ListN.{length, take, drop}

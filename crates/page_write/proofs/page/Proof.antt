@@ -6,7 +6,7 @@ use Rattle.bindings.proofs.Sound.{fit-sound}
 use Rattle.page.proofs.Whole.{page-whole}
 use Rattle.page.proofs.Greatest.{returned-few}
 use Rattle.page.proofs.ColumnsBound.{bound-few, bound-in}
-use Rattle.page.specs.Rows.{rowsAt}
+use Rattle.page.specs.RowPlaces.{rowsAt}
 use Rattle.wire.specs.Header.{getRowsMsg}
 use Rattle.bindings.specs.Column.{columnsOf}
 use native.Mathlib.Omega.{arith}

@@ -21,10 +21,10 @@ use Rattle.tree_hold.proofs.+list_told+node_told.Tie.{close}
 use mathlib.Core.Path.{sym, _∙_}
 use native.Mathlib.Omega.{arith}
 use borrow.Author.Needs.{needs}
-use Rattle.catalogue.specs.Places.{rowOf}
+use Rattle.catalogue.specs.CataloguePlaces.{rowOf}
 use Rattle.tree.specs.Reader.{readTree}
 use Rattle.wire.specs.Padding.{padding}
-use Rattle.tree.specs.There.{Found}
+use Rattle.tree.specs.HoldReady.{Found}
 use Rattle.tree.proofs.Nodes.{node-levels, as-branch, as-not, as-leaf, node-inside, not-child, not-told, leaf-found, leaf-answer, Lasts, left-first, branch-head, left-child, left-next, left-none}
 
 abbrev μ-list-told : Measures 2 list-told-kinds.ps ℕ

@@ -5,7 +5,7 @@ use Rattle.tree_hold.proofs.holds.Tie as tie
 use mathlib.Core.Path.{sym, _∙_}
 use Prim.Native.Nat.{_-_}
 use native.Mathlib.Omega.{arith}
-use Rattle.catalogue.specs.Places.{rowOf}
+use Rattle.catalogue.specs.CataloguePlaces.{rowOf}
 use Rattle.tree.specs.Limits.{levelsMost}
 use Rattle.tree.proofs.Nodes.{node-inside, as-branch, root, root-answer}
 

@@ -29,7 +29,7 @@ use borrow.Author.Needs.{needs}
 use borrow.Author.Tests.{not-true, not-false}
 use lib.ListN.{length}
 use Rattle.tree.specs.Reader.{readTree}
-use Rattle.tree.specs.Answer.{nodeAnswer, nodeUsed, listUsed}
+use Rattle.tree.specs.NodeTold.{nodeAnswer, nodeUsed, listUsed}
 use Rattle.tree.proofs.TreeLaws.{no-levels, no-nodes, no-head, branch-any, node-branch, node-not, node-leaf, not-by, branch-short, branch-empty, branch-by, list-none, list-short, list-unclear, list-bad, list-by, place-in, taken, not-used, branch-used, more-used}
 
 abbrev μ-branch : Measures 1 branch-kinds.ps ℕ

@@ -3,7 +3,8 @@ use borrow.Author.Needs.{needs}
 use Rattle.tree_select.proofs.holds_at.Statement.{statement}
 use Rattle.tree_select.proofs.holds_at.Tie as tie
 use mathlib.Core.Path.{sym, _∙_}
-use Rattle.tree.proofs.SelectLaws.{row-inside, no-row}
+use Rattle.catalogue.proofs.RowLaws.{row-ready}
+use Rattle.tree.proofs.SelectLaws.{no-row}
 
 row-again-requires : tie.Need-row-again-requires
 row-again-requires c κs = search needs
@@ -21,7 +22,7 @@ returns c = let a = c .before .before .before .before .before in
 holds-requires : tie.Need-holds-requires
 holds-requires c κs = let a = c .before .before .before .before .before .before in
     let v = c .before .row .given in
-    (a .pre .0, row-inside (a .args .catalogue .now) (a .args .place) (v .0 .0) (v .0 .1 .0) (sym (c .before .before .before .row-again .ensures) ∙ v .1))
+    (a .pre .0, row-ready (a .args .catalogue .now) (a .args .place) (v .0 .0) (v .0 .1 .0) (sym (c .before .before .before .row-again .ensures) ∙ v .1))
 
 returns-2 : tie.Need-returns-2
 returns-2 c = rw (sym (c .before .before .before .before .row-again .ensures) ∙ c .before .before .row .given .1) (c .holds .ensures)

@@ -9,8 +9,7 @@ use Prim.Native.Nat.{ℕ, _+_}
 use lib.Dec.{eqb}
 use Rattle.lists.specs.Below.{pick, both}
 use Rattle.wire.specs.Word.{numberAt}
-use Rattle.bindings.specs.Bindings.{Bindings}
-use Rattle.bindings.specs.Plain.{bindings}
+use Rattle.bindings.specs.Plain.{Bindings, bindings}
 use Rattle.tree.specs.Reader.{restriction}
 use Rattle.tree.specs.Select.{selectedBy}
 use Rattle.table.specs.Seat.{Cursor, Seat, cursorIn, opened, rebound, moved}

@@ -1,9 +1,7 @@
 -- What the code answers of a tree that it reads: the bytes that a node takes and how many nodes may still come, or that there is none.
-use mathlib.Core.Bool.{Bool, true, false}
 use mathlib.Core.Option.{Option, none, some}
 use Prim.Native.Nat.{ℕ, _+_}
 use Rattle.tree.specs.Kinds.{headSize, listHead}
-use Rattle.tree.specs.Tree.{Tree}
 use Rattle.tree.specs.Reader.{TreeRead, ForestRead}
 use Rattle.tree.specs.declared.NodeRead.{NodeRead}
 use Rattle.tree.specs.declared.NodeRead.the-variants.{Node, NoNode}
@@ -39,8 +37,3 @@ branchAnswer (Children used nodes) = Node (listHead + used) nodes
 abbrev pub moreAnswer : ℕ → ListRead → ListRead
 moreAnswer next NoChildren = NoChildren
 moreAnswer next (Children used nodes) = Children (next + used) nodes
-
--- whether there is a tree; 16 "restriction malformed or over a limit" is where there is none
-abbrev pub isTree : Option Tree → Bool
-isTree none = false
-isTree (some t) = true

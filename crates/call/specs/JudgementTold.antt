@@ -2,7 +2,7 @@
 use mathlib.Core.Path.{_≡_}
 use mathlib.Core.List.{List}
 use Prim.Native.Nat.{ℕ}
-use Rattle.catalogue.specs.Places.{checked, noted}
+use Rattle.catalogue.specs.CataloguePlaces.{checked, noted}
 use Rattle.refusal.specs.Refusal.{firstCause}
 use Rattle.call.specs.Step.{sourcesOf, judging}
 use Rattle.call.specs.declared.Judged.{Judged}

@@ -1,4 +1,4 @@
--- A column in a message, read at a place counted from the message's first byte (source, CTableColumn).
+-- A column in a message by places, counted from the message's first byte (source, CTableColumn): what the code follows.
 -- Each reader gives what it read and the place after it, or says that the body is malformed (01, refusal 9).
 use mathlib.Core.List.{List}
 use mathlib.Core.Option.{Option, none, some}
@@ -12,6 +12,7 @@ use Rattle.wire.specs.FieldPlaces.{ofPlace, ofNumber, withRead, paddedOn, numbe
 use Rattle.bindings.specs.declared.SpotRead.{SpotRead}
 use Rattle.bindings.specs.declared.ValueRead.{ValueRead}
 use Rattle.bindings.specs.declared.ColumnRead.{ColumnRead}
+use Rattle.bindings.specs.Plain.{typeWidth}
 
 -- what was read and the place after it, if anything
 abbrev pub ofSpot : SpotRead → Option (Spot × ℕ)
@@ -42,10 +43,6 @@ valueOn m at =
     pick (eqb (spot .used) 0) (ValueRead.At (record { used = 0; offset = 0; size = 0 }) next)
     (withRead (ofNumber (numberOn 2 m next)) ValueRead.Malformed (λ size after.
     ValueRead.At (record { used = spot .used; offset = spot .offset; size = size }) after)))
-
--- the bytes of vType, whose width the source leaves open
-abbrev pub typeWidth : ℕ
-typeWidth = 4
 
 -- PropSpec, vType, ValueUsed, ValueOffset, ValueSize, StatusUsed, StatusOffset, LengthUsed, LengthOffset; the source has no
 -- aggregate flag

@@ -1,6 +1,5 @@
 -- The option catalogue by places in its list of bytes: what the code follows. proofs/Agree.antt shows that it says what the
 -- plain parser says.
-use mathlib.Core.Path.{_≡_}
 use mathlib.Core.Bool.{Bool, false}
 use mathlib.Core.List.{List, [], _∷_}
 use mathlib.Core.Option.{Option, none, some}
@@ -10,7 +9,7 @@ use lib.ListN.{length, take, drop}
 use lib.Seq.{sets}
 use Rattle.lists.specs.Below.{pick, both}
 use Rattle.wire.specs.Word.{halves}
-use Rattle.catalogue.specs.Reading.{readingAt}
+use Rattle.catalogue.specs.NumberPlaces.{readingAt}
 use Rattle.catalogue.specs.declared.Reading.{Reading}
 use Rattle.catalogue.specs.declared.Reading.the-variants.{Number, Malformed}
 use Rattle.catalogue.specs.Limits.{rowsMost, keyMost, numberMost, sizeMost, bytesMost}
@@ -64,13 +63,6 @@ rowAt s at =
     withText (textAt s at₃) NoRow λ label at₄.
     withText (textAt s at₄) NoRow λ note at₅.
     RowTo (record { key = key; language = language; default = default; label = label; note = note }) at₅
-
--- a text and a row stand at a place
-abbrev pub TextThere : List ℕ → ℕ → Type 0
-TextThere s at = (t : Text) × (next : ℕ) × (textAt s at ≡ TextTo t next)
-
-abbrev pub RowThere : List ℕ → ℕ → Type 0
-RowThere s at = (f : Fields) × (next : ℕ) × (rowAt s at ≡ RowTo f next)
 
 -- the place after a text and after a row, 0 where there is none
 abbrev pub textEnd : TextAt → ℕ
@@ -128,3 +120,11 @@ rowOf s f =
 abbrev pub rowSeen : List ℕ → ℕ → Row
 rowSeen s at =
     withRow (rowAt s at) (record { key = 0; language = 0; default = 0; label = none; note = none }) λ f next. rowOf s f
+
+-- the fields of the row at a place; where there is none, fields that say nothing
+abbrev pub noFields : Fields
+noFields =
+    record { key = 0; language = 0; default = 0; label = record { size = 0; start = 0 }; note = record { size = 0; start = 0 } }
+
+abbrev pub fieldsSeen : List ℕ → ℕ → Fields
+fieldsSeen s at = withRow (rowAt s at) noFields λ f next. f

@@ -1,6 +1,6 @@
--- The body of CPMSetBindingsIn (01, "Bindings": "_hCursor, _cbRow, _cbBindingDesc, _dummy, cColumns, columns").
+-- The body of CPMSetBindingsIn by places, which the code follows (01, "Bindings": "_hCursor, _cbRow, _cbBindingDesc, _dummy, cColumns, columns").
 use mathlib.Core.Bool.{Bool, true, false}
-use mathlib.Core.List.{List, [], _∷_}
+use mathlib.Core.List.{List, []}
 use mathlib.Core.Option.{Option, none, some}
 use Prim.Native.Nat.{ℕ, zero, suc, _-_}
 use lib.Dec.{leb, eqb}
@@ -10,10 +10,12 @@ use Rattle.wire.specs.Word.{numberAt}
 use Rattle.bindings.specs.declared.Column.{Column}
 use Rattle.bindings.specs.Column.{keptAll}
 use Rattle.wire.specs.FieldPlaces.{ofPlace, withRead, paddedOn}
-use Rattle.bindings.specs.Wire.{ofColumn, columnOn}
+use Rattle.bindings.specs.ColumnPlaces.{ofColumn, columnOn}
 use Rattle.lists.specs.Options.{andThen}
 use Rattle.wire.specs.Header.{handleAt}
+use Rattle.bindings.specs.Plain.{Bindings, before}
 
+-- the places of the body's fields after _hCursor, counted from the message's first byte
 abbrev pub widthAt : ℕ
 widthAt = 20
 
@@ -25,17 +27,6 @@ countAt = 32
 
 abbrev pub columnsAt : ℕ
 columnsAt = 36
-
--- what the body holds
-pub record Bindings : Type 0 where
-  pub handle : ℕ
-  pub width : ℕ
-  pub columns : List Column
-
--- a column before others that were read
-abbrev pub before : Column → Option (List Column) → Option (List Column)
-before c none = none
-before c (some s) = some (c ∷ s)
 
 -- columns from a place on, and nothing after them. Each begins at a multiple of 4 from the message's first byte, with zero bytes
 -- before it; the first at 36, with none.

@@ -14,7 +14,7 @@ use Rattle.tree.specs.Reader.{TreeRead, Read, branchRead, readTree}
 use Rattle.tree.specs.VerdictTold.{told}
 
 -- a leaf of a kind is read at a place
-pub record LeafThere (kind : ℕ) (s : List ℕ) (at : ℕ) : Type 0 where
+pub record LeafReady (kind : ℕ) (s : List ℕ) (at : ℕ) : Type 0 where
   pub short : length s ≤ bytesMost
   pub parts : Parts
   pub used : ℕ
@@ -33,14 +33,14 @@ Tells read s at row answer =
     (nodes : ℕ) (r : TreeRead) → read nodes at (drop at s) ≡ some r → answer ≡ told (holds (r .tree) row) (at + r .used)
 
 -- a node of so many levels at most, and an and or an or over nodes of so many levels
-abbrev pub NodeThere : List ℕ → ℕ → ℕ → Type 0
-NodeThere s at levels = Found (readTree levels) s at
+abbrev pub NodeReady : List ℕ → ℕ → ℕ → Type 0
+NodeReady s at levels = Found (readTree levels) s at
 
 abbrev pub NodeTold : List ℕ → ℕ → ℕ → Row → ℕ → Type 0
 NodeTold s at levels row answer = Tells (readTree levels) s at row answer
 
-abbrev pub ListThere : ℕ → List ℕ → ℕ → ℕ → Type 0
-ListThere kind s at levels = Found (branchRead (readTree levels) kind) s at
+abbrev pub ListReady : ℕ → List ℕ → ℕ → ℕ → Type 0
+ListReady kind s at levels = Found (branchRead (readTree levels) kind) s at
 
 abbrev pub ListTold : ℕ → List ℕ → ℕ → ℕ → Row → ℕ → Type 0
 ListTold kind s at levels row answer = Tells (branchRead (readTree levels) kind) s at row answer

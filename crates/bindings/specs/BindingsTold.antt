@@ -6,8 +6,7 @@ use mathlib.Core.Option.{Option, none, some}
 use Prim.Native.Nat.{ℕ}
 use lib.ListN.{length}
 use Rattle.bindings.specs.Column.{noWords, wordsOf}
-use Rattle.bindings.specs.Bindings.{Bindings}
-use Rattle.bindings.specs.Plain.{bindings}
+use Rattle.bindings.specs.Plain.{Bindings, bindings}
 use Rattle.bindings.specs.declared.BindingsRead.{BindingsRead}
 
 -- a malformed message (refusal 9): nothing of it is told
