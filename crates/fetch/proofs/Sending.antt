@@ -1,6 +1,6 @@
 -- The reply with the rows that are sent. Assumes nothing.
 use mathlib.Core.Path.{_≡_, sym, ap, ap₂, _∙_}
-use mathlib.Core.List.{List, _++_}
+use mathlib.Core.List.{List}
 use Prim.Native.Nat.{ℕ, _+_, _-_, _≤_}
 use native.Mathlib.Omega.{arith}
 use lib.ListN.{length, getD, take, drop, length-take, length-drop, length-map}
@@ -13,14 +13,16 @@ use Rattle.refusal.specs.Refusal.{firstCause}
 use Rattle.fetch.specs.Request.{Sound}
 use Rattle.fetch.specs.declared.Request.{Request}
 use Rattle.page.specs.Rows.{returned}
-use Rattle.page.specs.RowPlaces.{rowsAt}
 use Rattle.page.specs.Page.{page, statusFor}
 use Rattle.page.specs.PageReady.{PageReady}
 use Rattle.page.proofs.Greatest.{returned-is, returned-room}
 use Rattle.page.proofs.Reply.{page-is}
-use Rattle.fetch.specs.Fetch.{remaining, earlyCauses, sent, rowsSent, thenLeft, fetchReply}
+use Rattle.fetch.specs.Fetch.{remaining, earlyCauses, sent, rowsSent, thenLeft}
 use Rattle.fetch.specs.FetchReady.{FetchReady}
 use Rattle.fetch.proofs.Facts.{count-is, count-most, position-most, all-rows, bindings-fit, words-ready}
+use Rattle.page.specs.declared.Sheet.{Sheet}
+use Rattle.page.specs.PageTold.{Paged}
+use Rattle.fetch.specs.FetchTold.{RowsSent}
 
 -- the rows that remain, and no more than they are sent
 remaining-count : (rows : List Row) (c : Cursor) → length (remaining rows c) ≡ length (c .selection) - c .position
@@ -53,7 +55,22 @@ module _ (b s places : List ℕ) (q : Request) (buffer : ℕ) (r : FetchReady b 
       )
 
   module _ (e : firstCause (earlyCauses (cursorHeld b) q) ≡ 0) where
-    pub page-ready : PageReady buffer (part b recordsAt recordsSize) (getD b 3 0) (getD b 4 0) (length (take (50 + getD b 2 0 - (50 + getD b 1 0)) (drop (50 + getD b 1 0) b))) (q .size) (q .from) (q .base)
+    -- the sheet that the reply is laid by, and the numbers of the rows that remain
+    abbrev pub sheetFor : Sheet
+    sheetFor =
+        record {
+          bound = getD b 3 0;
+          width = getD b 4 0;
+          size = q .size;
+          from = q .from;
+          base = q .base;
+          asked = q .asked;
+        }
+
+    abbrev pub numbersLeft : List ℕ
+    numbersLeft = take (50 + getD b 2 0 - (50 + getD b 1 0)) (drop (50 + getD b 1 0) b)
+
+    pub page-ready : PageReady buffer (part b recordsAt recordsSize) sheetFor (length numbersLeft)
     page-ready =
         record {
           long = words-ready b s places q buffer r e .long;
@@ -65,24 +82,24 @@ module _ (b s places : List ℕ) (q : Request) (buffer : ℕ) (r : FetchReady b 
           offset = omega (arith, r .sound .reach);
         }
 
-    pub page-sent : (k : ℕ) (entry exit : List ℕ)
-        → k ≡ returned (cursorHeld b .width) (cursorHeld b .columns) (q .asked) (q .size - q .from) (rowsAt s places (take (50 + getD b 2 0 - (50 + getD b 1 0)) (drop (50 + getD b 1 0) b)))
-        → exit ≡ page (q .size) (q .from) (cursorHeld b .width) (q .base) (statusFor (length (take (50 + getD b 2 0 - (50 + getD b 1 0)) (drop (50 + getD b 1 0) b)) - k)) (cursorHeld b .columns) (take k (rowsAt s places (take (50 + getD b 2 0 - (50 + getD b 1 0)) (drop (50 + getD b 1 0) b)))) entry
-        → (k ≡ sent (rowsOf (catalogue s)) (cursorHeld b) q) × (exit ≡ fetchReply (rowsOf (catalogue s)) (cursorHeld b) q ++ drop (q .size) entry)
-    page-sent k entry exit h w = (
-      is,
-      w
-          ∙ ap₂ (λ (n : ℕ) (rows : List Row). page (q .size) (q .from) (cursorHeld b .width) (q .base) (statusFor n) (cursorHeld b .columns) rows entry) left
-          (ap₂ (λ (n : ℕ) (rows : List Row). take n rows) is (all-rows b s places q buffer r))
-          ∙ page-is (q .size) (q .from) (cursorHeld b .width) (q .base) (statusFor (thenLeft (rowsOf (catalogue s)) (cursorHeld b) q)) (cursorHeld b .columns) (rowsSent (rowsOf (catalogue s)) (cursorHeld b) q)
-          (bindings-fit b s places q buffer r e)
-          (r .sound .from-least)
-          (returned-room (q .size) (q .from) (cursorHeld b .width) (cursorHeld b .columns) (q .asked) (remaining (rowsOf (catalogue s)) (cursorHeld b)) inside)
-          entry,
-    )
+    pub page-sent : (k : ℕ) (entry exit : List ℕ) → Paged sheetFor (part b recordsAt recordsSize) s places numbersLeft k entry exit
+        → RowsSent (rowsOf (catalogue s)) (cursorHeld b) q k entry exit
+    page-sent k entry exit w =
+        record {
+          counted = is;
+          written =
+              w .written
+              ∙ ap₂ (λ (n : ℕ) (rows : List Row). page (q .size) (q .from) (cursorHeld b .width) (q .base) (statusFor n) (cursorHeld b .columns) rows entry) left
+              (ap₂ (λ (n : ℕ) (rows : List Row). take n rows) is (all-rows b s places q buffer r))
+              ∙ page-is (q .size) (q .from) (cursorHeld b .width) (q .base) (statusFor (thenLeft (rowsOf (catalogue s)) (cursorHeld b) q)) (cursorHeld b .columns) (rowsSent (rowsOf (catalogue s)) (cursorHeld b) q)
+              (bindings-fit b s places q buffer r e)
+              (r .sound .from-least)
+              (returned-room (q .size) (q .from) (cursorHeld b .width) (cursorHeld b .columns) (q .asked) (remaining (rowsOf (catalogue s)) (cursorHeld b)) inside)
+              entry;
+        }
       where
         is : k ≡ sent (rowsOf (catalogue s)) (cursorHeld b) q
-        is = h ∙ ap (returned (cursorHeld b .width) (cursorHeld b .columns) (q .asked) (q .size - q .from)) (all-rows b s places q buffer r)
+        is = w .counted ∙ ap (returned (cursorHeld b .width) (cursorHeld b .columns) (q .asked) (q .size - q .from)) (all-rows b s places q buffer r)
 
         count : length (take (50 + getD b 2 0 - (50 + getD b 1 0)) (drop (50 + getD b 1 0) b)) ≡ getD b 2 0 - getD b 1 0
         count =

@@ -4,11 +4,16 @@ use mathlib.Core.List.{List, _++_}
 use mathlib.Core.Option.{some}
 use Prim.Native.Nat.{ℕ}
 use lib.ListN.{drop}
-use Rattle.catalogue.specs.Plain.{catalogue, rowsOf}
-use Rattle.table.specs.Seat.{cursorWords, cursorHeld}
+use Rattle.catalogue.specs.Plain.{catalogue, rowsOf, Row}
+use Rattle.table.specs.Seat.{cursorWords, cursorHeld, Cursor}
 use Rattle.fetch.specs.declared.Request.{Request}
 use Rattle.refusal.specs.Refusal.{firstCause}
-use Rattle.fetch.specs.Fetch.{fetchCauses, fetchReply, fetched}
+use Rattle.fetch.specs.Fetch.{fetchCauses, fetchReply, fetched, sent}
+
+-- the rows that remain, as many as are asked for and fit, written: how many they are
+pub record RowsSent (rows : List Row) (c : Cursor) (q : Request) (count : ℕ) (entry exit : List ℕ) : Type 0 where
+  pub counted : count ≡ sent rows c q
+  pub written : exit ≡ fetchReply rows c q ++ drop (q .size) entry
 
 -- the first of refusals 11, 12, 13 and 15, which leaves all as it was; where none applies, the cursor is moved and the reply is
 -- written

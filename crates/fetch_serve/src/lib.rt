@@ -8,9 +8,10 @@ ghost use Rattle.table.specs.Seat.{cursorHeld};
 ghost use Rattle.refusal.specs.Refusal.{firstCause};
 ghost use Rattle.fetch.specs.Fetch.{notServed, firstUnfit, remaining, earlyCauses, sent, fetchReply};
 ghost use Rattle.fetch.specs.FetchReady.{FetchReady};
-ghost use Rattle.fetch.specs.FetchTold.{Fetched};
+ghost use Rattle.fetch.specs.FetchTold.{RowsSent, Fetched};
 use fetch::Request;
 use page::Row;
+use page::Sheet;
 
 // A request that refusal 13 names.
 fn not_served(request: Request) -> bool
@@ -29,7 +30,7 @@ fn not_served(request: Request) -> bool
 }
 
 // Refusals 11 to 13.
-pub fn judge(cursor: &[u32], request: Request) -> u32
+fn judge(cursor: &[u32], request: Request) -> u32
     requires { ⌜ length (now cursor) ≡ cursorSize ⌝ }
     ensures { λ r. ⌜ r ≡ firstCause (earlyCauses (cursorHeld (now (cursor .entry))) request) ⌝ }
 {
@@ -46,7 +47,7 @@ pub fn judge(cursor: &[u32], request: Request) -> u32
 }
 
 // A row is asked for and remains, but the first does not fit.
-pub fn first_unfit(cursor: &[u32], request: Request, catalogue: &[u8], places: &[u32]) -> bool
+fn first_unfit(cursor: &[u32], request: Request, catalogue: &[u8], places: &[u32]) -> bool
     requires { ⌜ FetchReady (now cursor) (now catalogue) (now places) request (request .size) × (firstCause (earlyCauses (cursorHeld (now cursor)) request) ≡ 0) ⌝ }
     ensures { λ r. ⌜ r ≡ firstUnfit (cursorHeld (now (cursor .entry))) request (remaining (rowsIn (now (catalogue .entry))) (cursorHeld (now (cursor .entry)))) ⌝ }
 {
@@ -76,25 +77,32 @@ fn send(
     reply: &mut [u8],
 ) -> usize
     requires { ⌜ FetchReady (now cursor) (now catalogue) (now places) request (length (now reply)) × (firstCause (earlyCauses (cursorHeld (now cursor)) request) ≡ 0) ⌝ }
-    ensures { λ r. ⌜ r ≡ sent (rowsIn (now (catalogue .entry))) (cursorHeld (now (cursor .entry))) request ⌝ }
-    ensures { λ r. ⌜ now (reply .exit) ≡ fetchReply (rowsIn (now (catalogue .entry))) (cursorHeld (now (cursor .entry))) request ++ drop (request .size) (now (reply .entry)) ⌝ }
+    ensures { λ r. ⌜ RowsSent (rowsIn (now (catalogue .entry))) (cursorHeld (now (cursor .entry))) request r
+        (now (reply .entry)) (now (reply .exit)) ⌝ }
 {
     let first = table::ROWS + (cursor[table::POSITION] as usize);
     let end = table::ROWS + (cursor[table::COUNT] as usize);
     let bound = cursor[table::COLUMNS] as usize;
     let width = cursor[table::WIDTH] as usize;
+    let size = request.size as usize;
+    let from = request.from as usize;
+    let base = request.base as u64;
+    let asked = request.asked as usize;
+    let sheet = Sheet {
+        bound,
+        width,
+        size,
+        from,
+        base,
+        asked,
+    };
     page_write::page(
         reply,
         catalogue,
         places,
         &cursor[first..end],
         &cursor[table::RECORDS..table::ROWS],
-        bound,
-        width,
-        request.size as usize,
-        request.from as usize,
-        request.base as u64,
-        request.asked as usize,
+        sheet,
     )
 }
 

@@ -17,7 +17,7 @@ use Rattle.table.proofs.Seats.{seat-back}
 use Rattle.refusal.specs.Refusal.{firstCause, statusOf}
 use Rattle.message.specs.Message.{msgOf, gateCauses, bodyCauses, bodyOf, seatCauses, refusedOn, doneOn, doneBy, seatMessage}
 use Rattle.message.specs.AnswerReady.{MessageReady, AdmittedReady}
-use Rattle.message.specs.AnswerTold.{Answers}
+use Rattle.message.specs.AnswerTold.{Answers, Refuses}
 use Rattle.message.specs.declared.Answered.{Answered}
 use Rattle.refusal.proofs.First.{Numbered, first-stop, first-go}
 
@@ -36,16 +36,15 @@ words-is b m reply g = seat-back b (g .size) (g .well) .0
 
 -- a refusal: the header, and nothing else
 pub refused-answers : (rows : List Row) (b m entry exit : List ℕ) (msg n : ℕ) (r : Answered) → b ≡ seatWords (seatOf b) → msg ≡ msgOf m
-    → seatMessage rows (seatOf b) m ≡ refusedOn n (seatOf b) m → r ≡ record { refusal = n; count = 16 } → exit ≡ lay entry 0 (fourWords msg (statusOf n) 0 0)
-    → Answers (seatMessage rows (seatOf b) m) r b entry exit
+    → seatMessage rows (seatOf b) m ≡ refusedOn n (seatOf b) m → Refuses msg n r entry exit → Answers (seatMessage rows (seatOf b) m) r b entry exit
 unfolding le
-refused-answers rows b m entry exit msg n r e h o a w =
-    rw (o, a)
+refused-answers rows b m entry exit msg n r e h o w =
+    rw (o, w .answered)
     record {
       refused = refl;
       counted = refl;
       kept = e;
-      written = w ∙ lay-front entry (fourWords msg (statusOf n) 0 0) ∙ ap (λ (k : ℕ). fourWords k (statusOf n) 0 0 ++ drop 16 entry) h;
+      written = w .written ∙ lay-front entry (fourWords msg (statusOf n) 0 0) ∙ ap (λ (k : ℕ). fourWords k (statusOf n) 0 0 ++ drop 16 entry) h;
     }
 
 -- refusals 6 to 8
@@ -76,6 +75,10 @@ module _ (b m reply : List ℕ) (msg kind : ℕ) (a : AdmittedReady b m reply ms
     pub body-refused : (n : ℕ) → firstCause (bodyCauses rows kind (seatIn b) m) ≡ n → (n ≡ 0 → ⊥) → seatMessage rows (seatOf b) m ≡ refusedOn n (seatOf b) m
     unfolding seatMessage
     body-refused n e z = let f : firstCause (seatCauses rows (seatOf b) m) ≡ n = causes-are ∙ e in rw (f, ne-eqb n 0 z)
+
+    pub refused-by : (n : ℕ) → firstCause (bodyCauses rows kind (seatIn b) m) ≡ n → (n ≡ 0 → ⊥) → (r : Answered) (exit : List ℕ) → Refuses msg n r reply exit
+        → Answers (seatMessage rows (seatOf b) m) r b reply exit
+    refused-by n e z r exit w = refused-answers rows b m reply exit msg n r (words-is b m reply (a .given)) (a .msg-is) (body-refused n e z) w
 
     pub body-done : firstCause (bodyCauses rows kind (seatIn b) m) ≡ 0 → seatMessage rows (seatOf b) m ≡ doneOn rows kind (seatIn b) m
     unfolding seatMessage

@@ -10,7 +10,6 @@ use lib.ListN.{length, take, drop, take-append-drop}
 use Rattle.lists.proofs.Below.{by-test, both-left, both-right}
 use Rattle.lists.proofs.Options.{none≢some, some-is}
 use Rattle.catalogue.specs.Plain.{catalogue, rowsOf}
-use Rattle.wire.specs.Laid.{lay, fourWords}
 use Rattle.table.specs.Layout.{cursorSize, cursorPlace}
 use Rattle.lists.specs.Parts.{part, put}
 use Rattle.table.specs.Seat.{Cursor, Seat, cursorWords, cursorHeld, seatIn, seatOf, cursorIn}
@@ -25,11 +24,11 @@ use Rattle.fetch.specs.Fetch.{fetchCauses, fetchReply, fetched}
 use Rattle.fetch.specs.FetchReady.{FetchReady}
 use Rattle.fetch.specs.FetchTold.{Fetched}
 use Rattle.fetch.proofs.Fetching.{reply-length, fetch-small}
-use Rattle.refusal.specs.Refusal.{firstCause, statusOf}
+use Rattle.refusal.specs.Refusal.{firstCause}
 use Rattle.message.specs.Message.{handleOf, bodyCauses, rowsDone, refusedOn, seatMessage}
 use Rattle.table.specs.Open.{isOpen}
 use Rattle.message.specs.AnswerReady.{AdmittedReady, SourcesReady}
-use Rattle.message.specs.AnswerTold.{Answers}
+use Rattle.message.specs.AnswerTold.{Answers, Refuses}
 use Rattle.message.specs.declared.Answered.{Answered}
 use Rattle.message.proofs.Answering.{held, words-is, seat-is, seat-fits, refused-answers, body-refused, body-done}
 use Rattle.table.proofs.Handles.{place-inside, put-is}
@@ -161,15 +160,13 @@ module _ (b m reply : List ℕ) (msg : ℕ) (a : AdmittedReady b m reply msg 2) 
         refusal-small =
             omega (arith, f .refused, fetch-small (rowsOf (catalogue s)) (cursorHeld (take (at + cursorSize - at) (drop at b))) q)
 
-        pub refused-at : (n ≡ 0 → ⊥) → (exit : List ℕ) (r : Answered) → r ≡ record { refusal = n; count = 16 }
-            → exit ≡ lay mid 0 (fourWords msg (statusOf n) 0 0)
+        pub refused-at : (n ≡ 0 → ⊥) → (exit : List ℕ) (r : Answered) → Refuses msg n r mid exit
             → Answers (seatMessage (rowsOf (catalogue s)) (seatOf b) m) r (put b at (at + cursorSize - at) words) reply exit
-        refused-at h exit r t w =
+        refused-at h exit r w =
             rw (left-is words, words-back (cursor .0) (cursor .1) n words mid fetched-is h)
             (refused-answers (rowsOf (catalogue s)) b m reply exit msg n r (words-is b m reply (a .given)) (a .msg-is)
             (rows-refused (cursor .0) (cursor .1) n words mid fetched-is h)
-            t
-            (w ∙ ap (λ (x : List ℕ). lay x 0 (fourWords msg (statusOf n) 0 0)) (f .unwritten h)))
+            (subst (λ (x : List ℕ). Refuses msg n r x exit) (f .unwritten h) w))
 
         pub answered-at : n ≡ 0 → Answers (seatMessage (rowsOf (catalogue s)) (seatOf b) m) (record { refusal = 0; count = q .size })
             (put b at (at + cursorSize - at) words) reply mid

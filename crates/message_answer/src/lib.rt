@@ -61,17 +61,17 @@ fn fetch(
     requires { ⌜ AdmittedReady (now seat) (now message) (now reply) msg 2 × SourcesReady (now seat) (now catalogue) (now places) ⌝ }
     ensures { λ r. ⌜ Answers (seatMessage (rowsIn (now (catalogue .entry))) (seatOf (now (seat .entry))) (now (message .entry))) r (now (seat .exit)) (now (reply .entry)) (now (reply .exit)) ⌝ }
 {
-    let Asking::Asked(q) = fetch_request::read(message) else {
+    let Asking::Asked(request) = fetch_request::read(message) else {
         return message_gate::refuse(reply, msg, 9);
     };
-    let handle = q.handle;
-    let size = q.size;
+    let handle = request.handle;
+    let size = request.size;
     if !table_handle::is_open(seat, handle) {
         return message_gate::refuse(reply, msg, 10);
     }
     let at = table_handle::cursor_at(handle);
     let end = at + table::CURSOR_SIZE;
-    let refusal = fetch_serve::fetch(&mut seat[at..end], q, catalogue, places, reply);
+    let refusal = fetch_serve::fetch(&mut seat[at..end], request, catalogue, places, reply);
     if refusal != 0 {
         return message_gate::refuse(reply, msg, refusal);
     }

@@ -4,10 +4,10 @@ ghost use Prim.Native.Nat.{_≤_, _<_};
 ghost use lib.ListN.{length};
 ghost use Rattle.refusal.specs.Refusal.{statusOf, firstCause};
 ghost use Rattle.wire.specs.Header.{headerSize, messageMost};
-ghost use Rattle.wire.specs.Laid.{lay, fourWords};
 ghost use Rattle.table.specs.Layout.{seatSize};
 ghost use Rattle.table.specs.Seat.{seatOf};
 ghost use Rattle.message.specs.Message.{kinds, kindOf, tested, msgOf, gateCauses};
+ghost use Rattle.message.specs.AnswerTold.{Refuses};
 use message::Answered;
 
 const REFUSALS: u32 = 17;
@@ -34,7 +34,7 @@ const STATUSES: [u32; 17] = [
 ];
 
 // The status of a refusal, 0 of a number that is none.
-pub fn status(refusal: u32) -> u32
+fn status(refusal: u32) -> u32
     ensures { λ r. ⌜ r ≡ statusOf refusal ⌝ }
 {
     if refusal < REFUSALS {
@@ -103,7 +103,7 @@ pub fn gate(seat: &[u32], message: &[u8], kind: usize) -> u32
 // A refusal from 6 on: the header with its status.
 pub fn refuse(reply: &mut [u8], msg: u32, refusal: u32) -> Answered
     requires { ⌜ (headerSize ≤ length (now reply)) × (refusal < 17) ⌝ }
-    ensures { λ r. ⌜ (r ≡ record { refusal = refusal; count = 16 }) × (now (reply .exit) ≡ lay (now (reply .entry)) 0 (fourWords msg (statusOf refusal) 0 0)) ⌝ }
+    ensures { λ r. ⌜ Refuses msg refusal r (now (reply .entry)) (now (reply .exit)) ⌝ }
 {
     let sent = status(refusal);
     wire_lay_word::lay_header(reply, msg, sent);

@@ -16,6 +16,9 @@ use Rattle.wire.proofs.Lays.{lays-join}
 use Rattle.page.specs.Rows.{blocks, allBlocks, returned, rowSpans, rowsSpans}
 use Rattle.page.specs.RowPlaces.{rowsAt}
 use Rattle.page.specs.RowReady.{needed}
+use Rattle.bindings.specs.Column.{columnsOf}
+use Rattle.page.specs.declared.Sheet.{Sheet}
+use Rattle.page.specs.PageTold.{RowsLaid}
 
 -- the rows from an index on: one and then the others, or none
 pub rows-more : (s places numbers : List ℕ) (i : ℕ) → i < length numbers
@@ -122,18 +125,24 @@ pub lay-end : (t : List ℕ) (base width row top : ℕ) (columns : List Column) 
 unfolding rowsSpans lays
 lay-end t base width row top columns rows k e = rw e
 
-pub lay-done : (width : ℕ) (columns : List Column) (t t₀ : List ℕ) (base row top from size k sent total : ℕ) (rest all : List Row)
-    → k ≡ 0 → total ≡ sent + k
-    → lays t (rowsSpans base width row top columns (take k rest)) ≡ lays t₀ (rowsSpans base width from size columns (take total all))
-    → (sent ≡ total) × (t ≡ lays t₀ (rowsSpans base width from size columns (take sent all)))
-lay-done width columns t t₀ base row top from size k sent total rest all z c e = (
-  same,
-  sym (lay-end t base width row top columns rest k z)
-      ∙ e
-      ∙ ap (λ (n : ℕ). lays t₀ (rowsSpans base width from size columns (take n all))) (sym same),
-)
+pub lay-done : (sheet : Sheet) (records s places numbers t t₀ : List ℕ) (row top k sent : ℕ) (rest : List Row) → k ≡ 0
+    → returned (sheet .width) (columnsOf (sheet .bound) records) (sheet .asked) (sheet .size - sheet .from) (rowsAt s places numbers) ≡ sent + k
+    → lays t (rowsSpans (sheet .base) (sheet .width) row top (columnsOf (sheet .bound) records) (take k rest))
+    ≡ lays t₀ (rowsSpans (sheet .base) (sheet .width) (sheet .from) (sheet .size) (columnsOf (sheet .bound) records) (take (returned (sheet .width) (columnsOf (sheet .bound) records) (sheet .asked) (sheet .size - sheet .from) (rowsAt s places numbers)) (rowsAt s places numbers)))
+    → RowsLaid sheet records s places numbers sent t₀ t
+lay-done sheet records s places numbers t t₀ row top k sent rest z c e =
+    record {
+      counted = same;
+      laid =
+          sym (lay-end t (sheet .base) (sheet .width) row top columns rest k z)
+          ∙ e
+          ∙ ap (λ (n : ℕ). lays t₀ (rowsSpans (sheet .base) (sheet .width) (sheet .from) (sheet .size) columns (take n (rowsAt s places numbers)))) (sym same);
+    }
   where
-    same : sent ≡ total
+    columns : List Column
+    columns = columnsOf (sheet .bound) records
+
+    same : sent ≡ returned (sheet .width) (columnsOf (sheet .bound) records) (sheet .asked) (sheet .size - sheet .from) (rowsAt s places numbers)
     same = omega (arith, z, c)
 
 -- at the start no row is laid

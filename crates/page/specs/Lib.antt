@@ -9,3 +9,4 @@ pub mod Page
 pub mod PageReady
 pub mod Reads
 pub mod Examples
+pub mod PageTold

@@ -8,14 +8,15 @@ use Rattle.catalogue.specs.Limits.{rowsMost}
 use Rattle.bindings.specs.Column.{roomWords, columnsOf}
 use Rattle.bindings.specs.Fit.{fit}
 use Rattle.page.specs.Cell.{offsetWidth}
+use Rattle.page.specs.declared.Sheet.{Sheet}
 
 -- a whole reply in a buffer of n bytes: fit bindings, no more numbers than a catalogue has rows, and "_ulClientBase + B" not
 -- "above 4,294,967,295"
-pub record PageReady (n : ℕ) (words : List ℕ) (bound width count size from base : ℕ) : Type 0 where
-  pub long : length words ≡ roomWords
-  pub fits : fit width (columnsOf bound words) ≡ true
-  pub head : 32 ≤ from
+pub record PageReady (n : ℕ) (records : List ℕ) (sheet : Sheet) (count : ℕ) : Type 0 where
+  pub long : length records ≡ roomWords
+  pub fits : fit (sheet .width) (columnsOf (sheet .bound) records) ≡ true
+  pub head : 32 ≤ sheet .from
   pub few : count ≤ rowsMost
-  pub inside : from ≤ size
-  pub ends : size ≤ n
-  pub offset : base + size < 256 ^ offsetWidth
+  pub inside : sheet .from ≤ sheet .size
+  pub ends : sheet .size ≤ n
+  pub offset : sheet .base + sheet .size < 256 ^ offsetWidth

@@ -13,6 +13,7 @@ use Rattle.bindings.specs.declared.Column.{Column}
 use Rattle.page.specs.Cell.{offsetWidth}
 use Rattle.page.specs.FieldReady.{SpansReady}
 use Rattle.page.specs.Rows.{blocks}
+use Rattle.page.specs.declared.Sheet.{Sheet}
 
 -- the words of at most five columns
 pub record RecordsReady (words : List ℕ) (bound : ℕ) : Type 0 where
@@ -48,11 +49,11 @@ pub record RowReady (n : ℕ) (s : List ℕ) (at : ℕ) (fields : Fields) (words
   pub ends : top ≤ n
   pub offset : base + top < 256 ^ offsetWidth
 
--- rows in a reply of n bytes, from a place on, with their blocks below another
-pub record RowsReady (n : ℕ) (words : List ℕ) (bound width base from size : ℕ) : Type 0 where
-  pub given : RecordsReady words bound
-  pub narrow : width ≤ rowMost
-  pub columns : AllSpansReady width 0 words bound
-  pub inside : from ≤ size
-  pub ends : size ≤ n
-  pub offset : base + size < 256 ^ offsetWidth
+-- rows in a reply of n bytes, laid by a sheet
+pub record RowsReady (n : ℕ) (records : List ℕ) (sheet : Sheet) : Type 0 where
+  pub given : RecordsReady records (sheet .bound)
+  pub narrow : sheet .width ≤ rowMost
+  pub columns : AllSpansReady (sheet .width) 0 records (sheet .bound)
+  pub inside : sheet .from ≤ sheet .size
+  pub ends : sheet .size ≤ n
+  pub offset : sheet .base + sheet .size < 256 ^ offsetWidth

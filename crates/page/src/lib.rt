@@ -12,6 +12,17 @@ pub enum FieldAt {
 // A row's number: a type of its own, so that no seat and no handle can stand for it.
 pub struct Row(pub u32);
 
+// What a reply is laid by: how many columns are bound in rows of which width, the reply's size, the place of its first row, the
+// client's base, and how many rows are asked for.
+pub struct Sheet {
+    pub bound: usize,
+    pub width: usize,
+    pub size: usize,
+    pub from: usize,
+    pub base: u64,
+    pub asked: usize,
+}
+
 // The type that a cell says of a text.
 pub const TEXT_TYPE: u64 = 0x001F;
 

@@ -11,6 +11,7 @@ ghost use Rattle.bindings.specs.Fit.{isUsed};
 ghost use Rattle.wire.specs.Laid.{lay, lays};
 ghost use Rattle.page.specs.FieldPlaces.{fieldSeen, cellBytes};
 ghost use Rattle.page.specs.Cell.{blockOf, blockSize, blockSpan, laidIf, blockRoom, columnSpans};
+ghost use Rattle.page.specs.PageTold.{ColumnLaid};
 ghost use Rattle.page.specs.FieldReady.{FieldReady, SpansReady, ColumnReady};
 ghost use Rattle.catalogue.specs.CatalogueReady.{UnitsReady};
 use bindings::Column;
@@ -30,7 +31,7 @@ fn lay_text(reply: &mut [u8], catalogue: &[u8], text: Text, place: usize)
 }
 
 // A field's block, where the value is used and there is one.
-pub fn lay_block(reply: &mut [u8], catalogue: &[u8], used: u32, field: FieldAt, place: usize)
+fn lay_block(reply: &mut [u8], catalogue: &[u8], used: u32, field: FieldAt, place: usize)
     requires { ⌜ FieldReady (now catalogue) field × (place + pick (isUsed used) (blockSize (fieldSeen (now catalogue) field)) 0 ≤ length (now reply)) ⌝ }
     ensures { λ _. ⌜ now (reply .exit) ≡ lays (now (reply .entry)) (pick (isUsed used) (blockSpan place (fieldSeen (now (catalogue .entry)) field)) []) ⌝ }
 {
@@ -54,7 +55,7 @@ fn lay_variant(reply: &mut [u8], at: usize, kind: u64, number: u64)
 }
 
 // A column's cell, where its value is used.
-pub fn lay_value(reply: &mut [u8], column: Column, row: usize, kind: u64, number: u64)
+fn lay_value(reply: &mut [u8], column: Column, row: usize, kind: u64, number: u64)
     requires { ⌜ SpansReady (length (now reply)) row column ⌝ }
     ensures { λ _. ⌜ now (reply .exit) ≡ lays (now (reply .entry)) (laidIf (column .value .used) (row + column .value .offset) (cellBytes (column .property) (column .vtype) kind number)) ⌝ }
 {
@@ -70,7 +71,7 @@ pub fn lay_value(reply: &mut [u8], column: Column, row: usize, kind: u64, number
 }
 
 // A column's status byte, where it is used.
-pub fn lay_status(reply: &mut [u8], column: Column, row: usize, status: u8)
+fn lay_status(reply: &mut [u8], column: Column, row: usize, status: u8)
     requires { ⌜ SpansReady (length (now reply)) row column ⌝ }
     ensures { λ _. ⌜ now (reply .exit) ≡ lays (now (reply .entry)) (laidIf (column .status .used) (row + column .status .offset) (status ∷ [])) ⌝ }
 {
@@ -82,7 +83,7 @@ pub fn lay_status(reply: &mut [u8], column: Column, row: usize, status: u8)
 }
 
 // A column's length, where it is used.
-pub fn lay_length(reply: &mut [u8], column: Column, row: usize, value: u64)
+fn lay_length(reply: &mut [u8], column: Column, row: usize, value: u64)
     requires { ⌜ SpansReady (length (now reply)) row column ⌝ }
     ensures { λ _. ⌜ now (reply .exit) ≡ lays (now (reply .entry)) (laidIf (column .length .used) (row + column .length .offset) (le lengthSize value)) ⌝ }
 {
@@ -104,8 +105,7 @@ pub fn lay_column(
     top: usize,
 ) -> usize
     requires { ⌜ ColumnReady (length (now reply)) (now catalogue) fields column base row top ⌝ }
-    ensures { λ r. ⌜ r ≡ top - blockRoom column (rowOf (now (catalogue .entry)) fields) ⌝ }
-    ensures { λ r. ⌜ now (reply .exit) ≡ lays (now (reply .entry)) (columnSpans base row r column (rowOf (now (catalogue .entry)) fields)) ⌝ }
+    ensures { λ r. ⌜ ColumnLaid base row top column (rowOf (now (catalogue .entry)) fields) r (now (reply .entry)) (now (reply .exit)) ⌝ }
 {
     let found = page_field::field(fields, column.property);
     let place = top - page_field::room_of(column.value.used, found);

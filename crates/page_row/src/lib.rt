@@ -8,6 +8,7 @@ ghost use Rattle.bindings.specs.Column.{columnsOf};
 ghost use Rattle.bindings.specs.Fit.{rowMost};
 ghost use Rattle.wire.specs.Laid.{lays};
 ghost use Rattle.page.specs.Rows.{blocks, rowSpans};
+ghost use Rattle.page.specs.PageTold.{RowLaid};
 ghost use Rattle.page.specs.RowReady.{RecordsReady, blocksMost, RowReady};
 use catalogue::Fields;
 use page::Row;
@@ -77,8 +78,8 @@ pub fn lay_row(
     top: usize,
 ) -> usize
     requires { ⌜ RowReady (length (now reply)) (now catalogue) at fields (now records) bound base row top ⌝ }
-    ensures { λ r. ⌜ r ≡ top - blocks (columnsOf bound (now (records .entry))) (rowSeen (now (catalogue .entry)) at) ⌝ }
-    ensures { λ r. ⌜ now (reply .exit) ≡ lays (now (reply .entry)) (rowSpans base row top (columnsOf bound (now (records .entry))) (rowSeen (now (catalogue .entry)) at)) ⌝ }
+    ensures { λ r. ⌜ RowLaid base row top (columnsOf bound (now (records .entry))) (rowSeen (now (catalogue .entry)) at) r
+        (now (reply .entry)) (now (reply .exit)) ⌝ }
 {
     let mut place = top;
     let mut k = 0;

@@ -33,10 +33,10 @@ slice-read-position : tie.Need-slice-read-position
 slice-read-position c = omega (arith, size-is _ _ _ _ _ (c .before .before .before .before .before .before .before .before .before .before .before .before .before .before .before .before .pre))
 
 cast-move-to : tie.Need-cast-move-to
-cast-move-to c = let a = c .before .before .before .before .before .before .before .before .before .before .before .before .before .before .before .before .before in omega (arith, c .before .before .before .before .send .ensures .0, sent-most _ _ _ _ _ (a .pre), count-most _ _ _ _ _ (a .pre))
+cast-move-to c = let a = c .before .before .before .before .before .before .before .before .before .before .before .before .before .before .before .before .before in omega (arith, c .before .before .before .before .send .ensures .counted, sent-most _ _ _ _ _ (a .pre), count-most _ _ _ _ _ (a .pre))
 
 add-move-to : tie.Need-add-move-to
-add-move-to c = let a = c .before .before .before .before .before .before .before .before .before .before .before .before .before .before .before .before .before in omega (arith, c .before .before .before .before .send .ensures .0, sent-most _ _ _ _ _ (a .pre), count-most _ _ _ _ _ (a .pre))
+add-move-to c = let a = c .before .before .before .before .before .before .before .before .before .before .before .before .before .before .before .before .before in omega (arith, c .before .before .before .before .send .ensures .counted, sent-most _ _ _ _ _ (a .pre), count-most _ _ _ _ _ (a .pre))
 
 move-to-requires : tie.Need-move-to-requires
 move-to-requires c κs = size-is _ _ _ _ _ (c .before .before .before .before .before .before .before .before .before .before .before .before .before .before .before .before .before .pre)
@@ -48,7 +48,7 @@ same-length-4 : tie.Need-same-length-4
 same-length-4 c = search needs
 
 returns-3 : tie.Need-returns-3
-returns-3 c = let a = c .before .before .before .before .before .before .before .before .before .before .before .before .before .before .before .before .before .before .before .before in fetch-done (a .args .cursor .now) (a .args .catalogue .now) (a .args .request) (sym (c .before .before .before .before .before .before .before .before .before .before .before .before .before .before .judge .ensures) ∙ c .before .before .before .before .before .before .before .before .before .before .before .before .before .if1 .left) _ _ (a .args .reply .now) _ (a .pre .held) (sym (c .before .before .before .before .before .before .before .before .before .before .before .first-unfit .ensures) ∙ c .before .before .before .before .before .before .before .before .before .before .if2 .left) (c .before .before .before .before .before .before .before .send .ensures .0) (c .before .before .move-to .ensures) (c .before .before .before .before .before .before .before .send .ensures .1)
+returns-3 c = let a = c .before .before .before .before .before .before .before .before .before .before .before .before .before .before .before .before .before .before .before .before in fetch-done (a .args .cursor .now) (a .args .catalogue .now) (a .args .request) (sym (c .before .before .before .before .before .before .before .before .before .before .before .before .before .before .judge .ensures) ∙ c .before .before .before .before .before .before .before .before .before .before .before .before .before .if1 .left) _ _ (a .args .reply .now) _ (a .pre .held) (sym (c .before .before .before .before .before .before .before .before .before .before .before .first-unfit .ensures) ∙ c .before .before .before .before .before .before .before .before .before .before .if2 .left) (c .before .before .before .before .before .before .before .send .ensures .counted) (c .before .before .move-to .ensures) (c .before .before .before .before .before .before .before .send .ensures .written)
 
 pub fetch-spec : {M : Type 1} → statement M
 fetch-spec =

@@ -36,17 +36,29 @@ shared-slice-read-width c = omega (arith, size-is _ _ _ _ _ (c .before .before .
 cast-width : tie.Need-cast-width
 cast-width c = omega (arith, width-most _ _ _ _ _ (c .before .before .before .before .before .before .before .before .pre .0) (c .before .before .before .before .before .before .before .before .pre .1))
 
+cast-size : tie.Need-cast-size
+cast-size c = search needs
+
+cast-from : tie.Need-cast-from
+cast-from c = search needs
+
+cast-base : tie.Need-cast-base
+cast-base c = search needs
+
+cast-asked : tie.Need-cast-asked
+cast-asked c = search needs
+
 mul-page : tie.Need-mul-page
 mul-page c = search needs
 
 sub-page : tie.Need-sub-page
-sub-page c = omega (arith, position-most _ _ _ _ _ (c .before .before .before .before .before .before .before .before .before .pre .0))
+sub-page c = omega (arith, position-most _ _ _ _ _ (c .before .before .before .before .before .before .before .before .before .before .before .before .before .pre .0))
 
 part-page-start : tie.Need-part-page-start
-part-page-start c = omega (arith, position-most _ _ _ _ _ (c .before .before .before .before .before .before .before .before .before .pre .0))
+part-page-start c = omega (arith, position-most _ _ _ _ _ (c .before .before .before .before .before .before .before .before .before .before .before .before .before .pre .0))
 
 part-page-end : tie.Need-part-page-end
-part-page-end c = omega (arith, size-is _ _ _ _ _ (c .before .before .before .before .before .before .before .before .before .pre .0), count-most _ _ _ _ _ (c .before .before .before .before .before .before .before .before .before .pre .0))
+part-page-end c = omega (arith, size-is _ _ _ _ _ (c .before .before .before .before .before .before .before .before .before .before .before .before .before .pre .0), count-most _ _ _ _ _ (c .before .before .before .before .before .before .before .before .before .before .before .before .before .pre .0))
 
 sub-page-2 : tie.Need-sub-page-2
 sub-page-2 c = search needs
@@ -55,28 +67,20 @@ part-page-start-2 : tie.Need-part-page-start-2
 part-page-start-2 c = search needs
 
 part-page-end-2 : tie.Need-part-page-end-2
-part-page-end-2 c = omega (arith, size-is _ _ _ _ _ (c .before .before .before .before .before .before .before .before .before .before .pre .0))
-
-cast-page : tie.Need-cast-page
-cast-page c = search needs
-
-cast-page-2 : tie.Need-cast-page-2
-cast-page-2 c = search needs
-
-cast-page-3 : tie.Need-cast-page-3
-cast-page-3 c = search needs
-
-cast-page-4 : tie.Need-cast-page-4
-cast-page-4 c = search needs
+part-page-end-2 c = omega (arith, size-is _ _ _ _ _ (c .before .before .before .before .before .before .before .before .before .before .before .before .before .before .pre .0))
 
 page-requires : tie.Need-page-requires
-page-requires c κs = (page-ready _ _ _ _ _ (c .before .before .before .before .before .before .before .before .before .before .before .before .before .before .before .pre .0) (c .before .before .before .before .before .before .before .before .before .before .before .before .before .before .before .pre .1), all-there _ _ _ _ _ (c .before .before .before .before .before .before .before .before .before .before .before .before .before .before .before .pre .0))
+page-requires c κs =
+    let entry = c .before .before .before .before .before .before .before .before .before .before .before .before .before .before .before in
+    (page-ready _ _ _ _ _ (entry .pre .0) (entry .pre .1), all-there _ _ _ _ _ (entry .pre .0))
 
 same-length : tie.Need-same-length
 same-length c = search needs
 
 returns : tie.Need-returns
-returns c = page-sent _ _ _ _ _ (c .before .before .before .before .before .before .before .before .before .before .before .before .before .before .before .before .before .before .pre .0) (c .before .before .before .before .before .before .before .before .before .before .before .before .before .before .before .before .before .before .pre .1) _ _ _ (c .before .before .page .ensures .0) (c .before .before .page .ensures .1)
+returns c =
+    let entry = c .before .before .before .before .before .before .before .before .before .before .before .before .before .before .before .before .before .before in
+    page-sent _ _ _ _ _ (entry .pre .0) (entry .pre .1) _ _ _ (c .before .before .page .ensures)
 
 pub send-spec : {M : Type 1} → statement M
 send-spec =
@@ -92,6 +96,10 @@ send-spec =
     cast-bound
     shared-slice-read-width
     cast-width
+    cast-size
+    cast-from
+    cast-base
+    cast-asked
     mul-page
     sub-page
     part-page-start
@@ -99,10 +107,6 @@ send-spec =
     sub-page-2
     part-page-start-2
     part-page-end-2
-    cast-page
-    cast-page-2
-    cast-page-3
-    cast-page-4
     page-requires
     same-length
     returns)

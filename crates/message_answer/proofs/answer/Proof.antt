@@ -39,8 +39,7 @@ returns c =
     let m = a .args .message .now in
     refused-answers (rowsOf (catalogue (a .args .catalogue .now))) b m (a .args .reply .now) _ _ _ _ (words-is b m (a .args .reply .now) (a .pre .0)) (c .before .before .before .before .before .before .before .before .word .ensures)
     (gate-refused (rowsOf (catalogue (a .args .catalogue .now))) b m _ (sym (c .before .before .before .before .before .gate .ensures)) (c .before .before .before .before .if1 .taken))
-    (c .before .before .refuse .ensures .0)
-    (c .before .before .refuse .ensures .1)
+    (c .before .before .refuse .ensures)
 
 disconnect-requires : tie.Need-disconnect-requires
 disconnect-requires c κs =

@@ -9,7 +9,7 @@ use borrow.Author.Tests.{not-true, not-false}
 use Rattle.bindings.proofs.ReadJudged.{told-fit}
 use Rattle.table.specs.Seat.{seatIn, cursorIn}
 use Rattle.table.specs.Open.{isOpen}
-use Rattle.message.proofs.Answering.{words-is, refused-answers, body-refused}
+use Rattle.message.proofs.Answering.{refused-by}
 use Rattle.message.proofs.Binding.{not-read, not-opened, not-fit, bound-answers, told-none, told-some, rebound-is}
 
 slice-aggregate-read : tie.Need-slice-aggregate-read
@@ -29,10 +29,9 @@ returns c = λ rows.
     let a = c .before .before .before .before .before .before .before .before .before .before .before in
     let b = a .args .seat .now in
     let m = a .args .message .now in
-    refused-answers rows b m (a .args .reply .now) _ (a .args .msg) 9 _ (words-is b m (a .args .reply .now) (a .pre .given)) (a .pre .msg-is)
-    (body-refused b m (a .args .reply .now) (a .args .msg) 3 (a .pre) rows 9 (not-read b m (a .args .reply .now) (a .args .msg) (a .pre) rows (told-none m _ _ (c .before .before .before .before .before .before .read .ensures) (c .before .before .before .before .if1 .taken))) (λ z. omega arith))
-    (c .before .before .refuse .ensures .0)
-    (c .before .before .refuse .ensures .1)
+    refused-by b m (a .args .reply .now) (a .args .msg) 3 (a .pre) rows 9
+    (not-read b m (a .args .reply .now) (a .args .msg) (a .pre) rows (told-none m _ _ (c .before .before .before .before .before .before .read .ensures) (c .before .before .before .before .if1 .taken)))
+    (λ z. omega arith) _ _ (c .before .before .refuse .ensures)
 
 is-open-requires : tie.Need-is-open-requires
 is-open-requires c κs = search needs
@@ -52,10 +51,9 @@ returns-2 c = λ rows.
     let b = a .args .seat .now in
     let m = a .args .message .now in
     let x = told-some m _ _ (c .before .before .before .before .before .before .before .before .before .read .ensures) (c .before .before .before .before .before .before .before .if1 .left) in
-    refused-answers rows b m (a .args .reply .now) _ (a .args .msg) 10 _ (words-is b m (a .args .reply .now) (a .pre .given)) (a .pre .msg-is)
-    (body-refused b m (a .args .reply .now) (a .args .msg) 3 (a .pre) rows 10 (not-opened b m (a .args .reply .now) (a .args .msg) (a .pre) rows (x .0) (x .1 .is) (ap (λ (h : ℕ). isOpen (cursorIn (seatIn b) h)) (sym (x .1 .handle)) ∙ sym (c .before .before .before .before .before .is-open .ensures) ∙ not-true _ (c .before .before .before .before .if2 .taken))) (λ z. omega arith))
-    (c .before .before .refuse2 .ensures .0)
-    (c .before .before .refuse2 .ensures .1)
+    refused-by b m (a .args .reply .now) (a .args .msg) 3 (a .pre) rows 10
+    (not-opened b m (a .args .reply .now) (a .args .msg) (a .pre) rows (x .0) (x .1 .is) (ap (λ (h : ℕ). isOpen (cursorIn (seatIn b) h)) (sym (x .1 .handle)) ∙ sym (c .before .before .before .before .before .is-open .ensures) ∙ not-true _ (c .before .before .before .before .if2 .taken)))
+    (λ z. omega arith) _ _ (c .before .before .refuse2 .ensures)
 
 slice-aggregate-fit : tie.Need-slice-aggregate-fit
 slice-aggregate-fit c = search needs
@@ -78,11 +76,10 @@ returns-3 c = λ rows.
     let b = a .args .seat .now in
     let m = a .args .message .now in
     let x = told-some m _ _ (c .before .before .before .before .before .before .before .before .before .before .before .before .read .ensures) (c .before .before .before .before .before .before .before .before .before .before .if1 .left) in
-    refused-answers rows b m (a .args .reply .now) _ (a .args .msg) 12 _ (words-is b m (a .args .reply .now) (a .pre .given)) (a .pre .msg-is)
-    (body-refused b m (a .args .reply .now) (a .args .msg) 3 (a .pre) rows 12 (not-fit b m (a .args .reply .now) (a .args .msg) (a .pre) rows (x .0) (x .1 .is) (ap (λ (h : ℕ). isOpen (cursorIn (seatIn b) h)) (sym (x .1 .handle)) ∙ sym (c .before .before .before .before .before .before .before .before .is-open .ensures) ∙ not-false _ (c .before .before .before .before .before .before .before .if2 .left))
-    (sym (told-fit m _ _ (x .0) (c .before .before .before .before .before .before .before .before .before .before .before .before .read .ensures) (x .1 .is)) ∙ sym (c .before .before .before .before .before .fit .ensures) ∙ not-true _ (c .before .before .before .before .if3 .taken))) (λ z. omega arith))
-    (c .before .before .refuse3 .ensures .0)
-    (c .before .before .refuse3 .ensures .1)
+    refused-by b m (a .args .reply .now) (a .args .msg) 3 (a .pre) rows 12
+    (not-fit b m (a .args .reply .now) (a .args .msg) (a .pre) rows (x .0) (x .1 .is) (ap (λ (h : ℕ). isOpen (cursorIn (seatIn b) h)) (sym (x .1 .handle)) ∙ sym (c .before .before .before .before .before .before .before .before .is-open .ensures) ∙ not-false _ (c .before .before .before .before .before .before .before .if2 .left))
+    (sym (told-fit m _ _ (x .0) (c .before .before .before .before .before .before .before .before .before .before .before .before .read .ensures) (x .1 .is)) ∙ sym (c .before .before .before .before .before .fit .ensures) ∙ not-true _ (c .before .before .before .before .if3 .taken)))
+    (λ z. omega arith) _ _ (c .before .before .refuse3 .ensures)
 
 slice-aggregate-rebind : tie.Need-slice-aggregate-rebind
 slice-aggregate-rebind c = search needs

@@ -3,7 +3,7 @@ use borrow.Author.Needs.{needs}
 use Rattle.message_answer.proofs.fetch.Statement.{statement}
 use Rattle.message_answer.proofs.fetch.Tie as tie
 use Rattle.message.proofs.Rows.{not-asked, rows-closed, found-inside, ready-at, refusal-small, refused-at, answered-at}
-use Rattle.message.proofs.Answering.{words-is, refused-answers, body-refused}
+use Rattle.message.proofs.Answering.{refused-by}
 use Rattle.table.specs.Open.{isOpen}
 use Rattle.catalogue.specs.Plain.{rowsOf, catalogue}
 use Rattle.fetch.proofs.Ranges.{request-handle, asked-is, malformed-is}
@@ -11,14 +11,16 @@ use Rattle.fetch.specs.Request.{request}
 use Rattle.table.specs.Seat.{seatIn, cursorIn}
 use borrow.Author.Tests.{not-true, not-false}
 use native.Mathlib.Omega.{arith}
-use Prim.Native.Nat.{ℕ}
-use mathlib.Core.Path.{sym, ap, _∙_}
+use Prim.Native.Nat.{ℕ, _+_, _≤_}
+use mathlib.Core.Path.{sym, ap, _∙_, _≡_}
+use lib.ListN.{length}
+use Rattle.table.specs.Layout.{seatSize, cursorSize}
 
 read-requires : tie.Need-read-requires
 read-requires c κs = search needs
 
-enum-known-q : tie.Need-enum-known-q
-enum-known-q c = search needs
+enum-known-request : tie.Need-enum-known-request
+enum-known-request c = search needs
 
 enum-told : tie.Need-enum-told
 enum-told c = search needs
@@ -37,12 +39,9 @@ returns c =
     let s = a .args .catalogue .now in
     let reply = a .args .reply .now in
     let msg = a .args .msg in
-    refused-answers (rowsOf (catalogue s)) b m reply _ msg 9 _ (words-is b m reply (a .pre .0 .given)) (a .pre .0 .msg-is)
-    (body-refused b m reply msg 2 (a .pre .0) (rowsOf (catalogue s)) 9
+    refused-by b m reply msg 2 (a .pre .0) (rowsOf (catalogue s)) 9
     (not-asked b m reply msg (a .pre .0) s (a .args .places .now) (a .pre .1) (malformed-is (request m) (sym (c .before .before .before .before .before .before .read .ensures) ∙ c .before .before .before .before .enum-told .given .1)))
-    (λ z. omega arith))
-    (c .before .before .refuse .ensures .0)
-    (c .before .before .refuse .ensures .1)
+    (λ z. omega arith) _ _ (c .before .before .refuse .ensures)
 
 is-open-requires : tie.Need-is-open-requires
 is-open-requires c κs = search needs
@@ -64,31 +63,29 @@ returns-2 c =
     let s = a .args .catalogue .now in
     let reply = a .args .reply .now in
     let msg = a .args .msg in
-    let e = asked-is (request m) (sym (c .before .before .before .before .before .before .before .before .before .before .read .ensures) ∙ c .before .before .before .before .before .before .before .before .q .given .1) in
-    refused-answers (rowsOf (catalogue s)) b m reply _ msg 10 _ (words-is b m reply (a .pre .0 .given)) (a .pre .0 .msg-is)
-    (body-refused b m reply msg 2 (a .pre .0) (rowsOf (catalogue s)) 10
+    let e = asked-is (request m) (sym (c .before .before .before .before .before .before .before .before .before .before .read .ensures) ∙ c .before .before .before .before .before .before .before .before .request .given .1) in
+    refused-by b m reply msg 2 (a .pre .0) (rowsOf (catalogue s)) 10
     (rows-closed b m reply msg (a .pre .0) s (a .args .places .now) (a .pre .1) _ e
     (ap (λ (h : ℕ). isOpen (cursorIn (seatIn b) h)) (sym (request-handle m _ e)) ∙ sym (c .before .before .before .before .before .is-open .ensures) ∙ not-true _ (c .before .before .before .before .if1 .taken)))
-    (λ z. omega arith))
-    (c .before .before .refuse2 .ensures .0)
-    (c .before .before .refuse2 .ensures .1)
+    (λ z. omega arith) _ _ (c .before .before .refuse2 .ensures)
 
 cursor-at-requires : tie.Need-cursor-at-requires
 cursor-at-requires c κs = search needs
 
-add-end : tie.Need-add-end
-add-end c =
+-- the cursor that was found lies in its seat's words
+cursor-inside : (c : tie.After-cursor-at) → (c .cursor-at .result + cursorSize ≤ seatSize) × (length (c .before .before .before .before .before .before .before .before .before .before .before .before .before .args .seat .now) ≡ seatSize)
+cursor-inside c =
     let a = c .before .before .before .before .before .before .before .before .before .before .before .before .before in
     let m = a .args .message .now in
-    let e = asked-is (request m) (sym (c .before .before .before .before .before .before .before .read .ensures) ∙ c .before .before .before .before .before .q .given .1) in
-    omega (arith, a .pre .0 .given .size, found-inside (a .args .seat .now) m (a .args .reply .now) (a .args .msg) (a .pre .0) (a .args .catalogue .now) (a .args .places .now) (a .pre .1) _ e _ (c .cursor-at .ensures))
+    let e = asked-is (request m) (sym (c .before .before .before .before .before .before .before .read .ensures) ∙ c .before .before .before .before .before .request .given .1) in
+    let found = found-inside (a .args .seat .now) m (a .args .reply .now) (a .args .msg) (a .pre .0) (a .args .catalogue .now) (a .args .places .now) (a .pre .1) _ e _ (c .cursor-at .ensures) in
+    (omega (arith, a .pre .0 .given .size, found), a .pre .0 .given .size)
+
+add-end : tie.Need-add-end
+add-end c = omega (arith, cursor-inside c)
 
 mul-fetch : tie.Need-mul-fetch
-mul-fetch c =
-    let a = c .before .before .before .before .before .before .before .before .before .before .before .before .before in
-    let m = a .args .message .now in
-    let e = asked-is (request m) (sym (c .before .before .before .before .before .before .before .read .ensures) ∙ c .before .before .before .before .before .q .given .1) in
-    omega (arith, a .pre .0 .given .size, found-inside (a .args .seat .now) m (a .args .reply .now) (a .args .msg) (a .pre .0) (a .args .catalogue .now) (a .args .places .now) (a .pre .1) _ e _ (c .cursor-at .ensures))
+mul-fetch c = omega (arith, cursor-inside c)
 
 sub-fetch : tie.Need-sub-fetch
 sub-fetch c = search needs
@@ -97,11 +94,7 @@ part-fetch-start : tie.Need-part-fetch-start
 part-fetch-start c = search needs
 
 part-fetch-end : tie.Need-part-fetch-end
-part-fetch-end c =
-    let a = c .before .before .before .before .before .before .before .before .before .before .before .before .before in
-    let m = a .args .message .now in
-    let e = asked-is (request m) (sym (c .before .before .before .before .before .before .before .read .ensures) ∙ c .before .before .before .before .before .q .given .1) in
-    omega (arith, a .pre .0 .given .size, found-inside (a .args .seat .now) m (a .args .reply .now) (a .args .msg) (a .pre .0) (a .args .catalogue .now) (a .args .places .now) (a .pre .1) _ e _ (c .cursor-at .ensures))
+part-fetch-end c = omega (arith, cursor-inside c)
 
 fetch-requires : tie.Need-fetch-requires
 fetch-requires c κs =
@@ -111,7 +104,7 @@ fetch-requires c κs =
     let s = a .args .catalogue .now in
     let reply = a .args .reply .now in
     let msg = a .args .msg in
-    let e = asked-is (request m) (sym (c .before .before .before .before .before .before .before .before .before .read .ensures) ∙ c .before .before .before .before .before .before .before .q .given .1) in
+    let e = asked-is (request m) (sym (c .before .before .before .before .before .before .before .before .before .read .ensures) ∙ c .before .before .before .before .before .before .before .request .given .1) in
     ready-at b m reply msg (a .pre .0) s (a .args .places .now) (a .pre .1) _ e (sym (c .before .before .before .before .is-open .ensures) ∙ not-false _ (c .before .before .before .if1 .left)) _ (c .before .before .cursor-at .ensures)
 
 refuse-requires-3 : tie.Need-refuse-requires-3
@@ -122,7 +115,7 @@ refuse-requires-3 c κs =
     let s = a .args .catalogue .now in
     let reply = a .args .reply .now in
     let msg = a .args .msg in
-    let e = asked-is (request m) (sym (c .before .before .before .before .before .before .before .before .before .before .before .before .before .before .before .before .read .ensures) ∙ c .before .before .before .before .before .before .before .before .before .before .before .before .before .before .q .given .1) in
+    let e = asked-is (request m) (sym (c .before .before .before .before .before .before .before .before .before .before .before .before .before .before .before .before .read .ensures) ∙ c .before .before .before .before .before .before .before .before .before .before .before .before .before .before .request .given .1) in
     (omega (arith, a .pre .0 .given .room), refusal-small b m reply msg (a .pre .0) s (a .args .places .now) (a .pre .1) _ e (sym (c .before .before .before .before .before .before .before .before .before .before .before .is-open .ensures) ∙ not-false _ (c .before .before .before .before .before .before .before .before .before .before .if1 .left)) _ (c .before .before .before .before .before .before .before .before .before .cursor-at .ensures) _ _ _ (c .before .before .before .before .before .before .fetch .ensures))
 
 same-length-4 : tie.Need-same-length-4
@@ -139,10 +132,9 @@ returns-3 c =
     let s = a .args .catalogue .now in
     let reply = a .args .reply .now in
     let msg = a .args .msg in
-    let e = asked-is (request m) (sym (c .before .before .before .before .before .before .before .before .before .before .before .before .before .before .before .before .before .before .before .read .ensures) ∙ c .before .before .before .before .before .before .before .before .before .before .before .before .before .before .before .before .before .q .given .1) in
+    let e = asked-is (request m) (sym (c .before .before .before .before .before .before .before .before .before .before .before .before .before .before .before .before .before .before .before .read .ensures) ∙ c .before .before .before .before .before .before .before .before .before .before .before .before .before .before .before .before .before .request .given .1) in
     refused-at b m reply msg (a .pre .0) s (a .args .places .now) (a .pre .1) _ e (sym (c .before .before .before .before .before .before .before .before .before .before .before .before .before .before .is-open .ensures) ∙ not-false _ (c .before .before .before .before .before .before .before .before .before .before .before .before .before .if1 .left)) _ (c .before .before .before .before .before .before .before .before .before .before .before .before .cursor-at .ensures) _ _ _ (c .before .before .before .before .before .before .before .before .before .fetch .ensures) (c .before .before .before .before .if2 .taken) _ _
-    (c .before .before .refuse3 .ensures .0)
-    (c .before .before .refuse3 .ensures .1)
+    (c .before .before .refuse3 .ensures)
 
 same-length-6 : tie.Need-same-length-6
 same-length-6 c = search needs
@@ -158,7 +150,7 @@ returns-4 c =
     let s = a .args .catalogue .now in
     let reply = a .args .reply .now in
     let msg = a .args .msg in
-    let e = asked-is (request m) (sym (c .before .before .before .before .before .before .before .before .before .before .before .before .before .before .before .read .ensures) ∙ c .before .before .before .before .before .before .before .before .before .before .before .before .before .q .given .1) in
+    let e = asked-is (request m) (sym (c .before .before .before .before .before .before .before .before .before .before .before .before .before .before .before .read .ensures) ∙ c .before .before .before .before .before .before .before .before .before .before .before .before .before .request .given .1) in
     answered-at b m reply msg (a .pre .0) s (a .args .places .now) (a .pre .1) _ e (sym (c .before .before .before .before .before .before .before .before .before .before .is-open .ensures) ∙ not-false _ (c .before .before .before .before .before .before .before .before .before .if1 .left)) _ (c .before .before .before .before .before .before .before .before .cursor-at .ensures) _ _ _ (c .before .before .before .before .before .fetch .ensures) (c .if2 .left)
 
 pub fetch-spec : {M : Type 1} → statement M
@@ -166,7 +158,7 @@ fetch-spec =
     tie.close
     (tie.spec
     read-requires
-    enum-known-q
+    enum-known-request
     enum-told
     refuse-requires
     same-length

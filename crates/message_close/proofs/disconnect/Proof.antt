@@ -3,7 +3,7 @@ use borrow.Author.Needs.{needs}
 use Rattle.message_close.proofs.disconnect.Statement.{statement}
 use Rattle.message_close.proofs.disconnect.Tie as tie
 use native.Mathlib.Omega.{arith}
-use Rattle.message.proofs.Answering.{words-is, refused-answers, body-refused}
+use Rattle.message.proofs.Answering.{refused-by}
 use Rattle.message.proofs.Bodies.{body-there, disconnected}
 
 refuse-requires : tie.Need-refuse-requires
@@ -17,10 +17,9 @@ returns c = λ rows.
     let a = c .before .before .before .before .before .before .before .before in
     let b = a .args .seat .now in
     let m = a .args .message .now in
-    refused-answers rows b m (a .args .reply .now) _ (a .args .msg) 9 _ (words-is b m (a .args .reply .now) (a .pre .given)) (a .pre .msg-is)
-    (body-refused b m (a .args .reply .now) (a .args .msg) 0 (a .pre) rows 9 (body-there b m (a .args .reply .now) (a .args .msg) (a .pre) rows (c .before .before .before .before .if1 .taken)) (λ z. omega arith))
-    (c .before .before .refuse .ensures .0)
-    (c .before .before .refuse .ensures .1)
+    refused-by b m (a .args .reply .now) (a .args .msg) 0 (a .pre) rows 9
+    (body-there b m (a .args .reply .now) (a .args .msg) (a .pre) rows (c .before .before .before .before .if1 .taken))
+    (λ z. omega arith) _ _ (c .before .before .refuse .ensures)
 
 clear-requires : tie.Need-clear-requires
 clear-requires c κs = search needs

@@ -10,7 +10,7 @@ use Rattle.table.specs.Layout.{cursorSize, cursorPlace}
 use Rattle.lists.specs.Parts.{put}
 use Rattle.table.specs.Seat.{cursorWords, seatIn, cursorIn}
 use Rattle.table.specs.Open.{isOpen}
-use Rattle.message.proofs.Answering.{words-is, refused-answers, body-refused}
+use Rattle.message.proofs.Answering.{refused-by}
 use Rattle.message.proofs.Bodies.{not-four, not-open, freed-answers}
 use mathlib.Core.Option.{none}
 use mathlib.Core.List.{List}
@@ -28,10 +28,9 @@ returns c = λ rows.
     let a = c .before .before .before .before .before .before .before .before in
     let b = a .args .seat .now in
     let m = a .args .message .now in
-    refused-answers rows b m (a .args .reply .now) _ (a .args .msg) 9 _ (words-is b m (a .args .reply .now) (a .pre .given)) (a .pre .msg-is)
-    (body-refused b m (a .args .reply .now) (a .args .msg) 1 (a .pre) rows 9 (not-four b m (a .args .reply .now) (a .args .msg) (a .pre) rows (c .before .before .before .before .if1 .taken)) (λ z. omega arith))
-    (c .before .before .refuse .ensures .0)
-    (c .before .before .refuse .ensures .1)
+    refused-by b m (a .args .reply .now) (a .args .msg) 1 (a .pre) rows 9
+    (not-four b m (a .args .reply .now) (a .args .msg) (a .pre) rows (c .before .before .before .before .if1 .taken))
+    (λ z. omega arith) _ _ (c .before .before .refuse .ensures)
 
 word-requires : tie.Need-word-requires
 word-requires c κs = search needs
@@ -53,11 +52,10 @@ returns-2 c = λ rows.
     let a = c .before .before .before .before .before .before .before .before .before .before .before .before in
     let b = a .args .seat .now in
     let m = a .args .message .now in
-    refused-answers rows b m (a .args .reply .now) _ (a .args .msg) 10 _ (words-is b m (a .args .reply .now) (a .pre .given)) (a .pre .msg-is)
-    (body-refused b m (a .args .reply .now) (a .args .msg) 1 (a .pre) rows 10 (not-open b m (a .args .reply .now) (a .args .msg) (a .pre) rows (c .before .before .before .before .before .before .before .before .if1 .left)
-    (ap (λ (h : ℕ). isOpen (cursorIn (seatIn b) h)) (sym (c .before .before .before .before .before .before .before .word .ensures)) ∙ sym (c .before .before .before .before .before .is-open .ensures) ∙ not-true _ (c .before .before .before .before .if2 .taken))) (λ z. omega arith))
-    (c .before .before .refuse2 .ensures .0)
-    (c .before .before .refuse2 .ensures .1)
+    refused-by b m (a .args .reply .now) (a .args .msg) 1 (a .pre) rows 10
+    (not-open b m (a .args .reply .now) (a .args .msg) (a .pre) rows (c .before .before .before .before .before .before .before .before .if1 .left)
+    (ap (λ (h : ℕ). isOpen (cursorIn (seatIn b) h)) (sym (c .before .before .before .before .before .before .before .word .ensures)) ∙ sym (c .before .before .before .before .before .is-open .ensures) ∙ not-true _ (c .before .before .before .before .if2 .taken)))
+    (λ z. omega arith) _ _ (c .before .before .refuse2 .ensures)
 
 close-requires : tie.Need-close-requires
 close-requires c κs = search needs

@@ -18,7 +18,7 @@ same-length c = search needs
 returns : tie.Need-returns
 returns c =
     let a = c .before .before .before .before .before .before .args in
-    (refl, c .before .before .lay-header .ensures ∙ ap (λ (s : ℕ). lay (a .reply .now) 0 (fourWords (a .msg) s 0 0)) (c .before .before .before .before .status .ensures))
+    record { answered = refl; written = c .before .before .lay-header .ensures ∙ ap (λ (s : ℕ). lay (a .reply .now) 0 (fourWords (a .msg) s 0 0)) (c .before .before .before .before .status .ensures) }
 
 pub refuse-spec : {M : Type 1} → statement M
 refuse-spec = tie.close (tie.spec status-requires lay-header-requires same-length returns)

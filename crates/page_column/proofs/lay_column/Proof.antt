@@ -59,15 +59,16 @@ same-length c = search needs
 returns : tie.Need-returns
 returns c = let a = c .before .before .before .before .before .before .before .before .before .before .before .before .before .before .before .before .before .before .before .before .before .before .before .before .args in let s = a .catalogue .now in let p = c .before .before .before .before .before .before .before .before .before .before .before .before .before .before .before .before .before .before .before .before .before .before .before .before .pre in let found = c .before .before .before .before .before .before .before .before .before .before .before .before .before .before .before .before .before .before .before .before .before .field .result in
     let stand = found-stands s (a .fields) (a .column) found (p .stands) (c .before .before .before .before .before .before .before .before .before .before .before .before .before .before .before .before .before .before .before .before .before .field .ensures) in
-    let room = c .before .before .before .before .before .before .before .before .before .before .before .before .before .before .before .before .before .before .before .before .room-of .ensures s stand ∙ found-room s (a .fields) (a .column) found (p .stands) (c .before .before .before .before .before .before .before .before .before .before .before .before .before .before .before .before .before .before .before .before .before .field .ensures) in (
-      ap (λ (n : ℕ). a .top - n) room,
-      column-laid s (a .fields) (a .column) found (p .stands) (c .before .before .before .before .before .before .before .before .before .before .before .before .before .before .before .before .before .before .before .before .before .field .ensures) (a .reply .now)
+    let room = c .before .before .before .before .before .before .before .before .before .before .before .before .before .before .before .before .before .before .before .before .room-of .ensures s stand ∙ found-room s (a .fields) (a .column) found (p .stands) (c .before .before .before .before .before .before .before .before .before .before .before .before .before .before .before .before .before .before .before .before .before .field .ensures) in
+    record {
+      placed = ap (λ (n : ℕ). a .top - n) room;
+      laid = column-laid s (a .fields) (a .column) found (p .stands) (c .before .before .before .before .before .before .before .before .before .before .before .before .before .before .before .before .before .before .before .before .before .field .ensures) (a .reply .now)
           (c .before .before .before .before .before .before .before .before .before .before .before .before .before .before .before .before .before .before .lay-block .last .0) (c .before .before .before .before .before .before .before .before .before .before .before .before .lay-value .last .0) (c .before .before .before .before .before .before .before .lay-status .last .0) (c .before .before .lay-length .last .0)
           (a .base) (a .row) (a .top - c .before .before .before .before .before .before .before .before .before .before .before .before .before .before .before .before .before .before .before .before .room-of .result) (c .before .before .before .before .before .before .before .before .before .before .before .before .before .before .kind .result) (c .before .before .before .before .before .before .before .before .before .before .before .before .before .content .result) (c .before .before .before .before .before .before .before .before .status .result) (c .before .before .before .length-sent .result)
           (omega (arith, p .offset))
           (c .before .before .before .before .before .before .before .before .before .before .before .before .before .before .before .before .before .before .lay-block .ensures) (c .before .before .before .before .before .before .before .before .before .before .before .before .before .before .kind .ensures s) (c .before .before .before .before .before .before .before .before .before .before .before .before .before .content .ensures s) (c .before .before .before .before .before .before .before .before .before .before .before .before .lay-value .ensures)
-          (c .before .before .before .before .before .before .before .before .status .ensures s) (c .before .before .before .before .before .before .before .lay-status .ensures) (c .before .before .before .length-sent .ensures s stand) (c .before .before .lay-length .ensures),
-    )
+          (c .before .before .before .before .before .before .before .before .status .ensures s) (c .before .before .before .before .before .before .before .lay-status .ensures) (c .before .before .before .length-sent .ensures s stand) (c .before .before .lay-length .ensures);
+    }
 
 pub lay-column-spec : {M : Type 1} → statement M
 lay-column-spec =

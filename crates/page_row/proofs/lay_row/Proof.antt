@@ -54,13 +54,13 @@ loop-again : tie.Need-loop-again Inv-loop μ-loop
 loop-again c = let a = c .before .before .before .before .before .before .before .before .before .before .args in let l = c .before .before .before .before .before .before .loop in let f = a .fields in let r = rowOf (a .catalogue .now) f in
     let more = blocks-more (l .left) (l .k) (a .records .now) r (c .before .before .before .before .before .loop-test .taken) in
     let same = ap (λ (d : Column). blockRoom d r) (c .before .before .before .before .column-at .ensures) in
-    let place = c .before .before .lay-column .ensures .0 in (
+    let place = c .before .before .lay-column .ensures .placed in (
       omega arith,
       c .before .before .lay-column .kept .0 ∙ l .inv .1,
       omega (arith, place, l .inv .2),
       omega (arith, place, more, same, l .inv .3),
       omega (arith, place, more, same, l .inv .3, l .inv .4),
-      row-step (l .left) (l .k) (a .records .now) r (l .reply) (c .before .before .lay-column .last .0) (a .base) (a .row) (l .place) (c .before .before .lay-column .result) (c .before .before .before .before .column-at .result) (c .before .before .before .before .before .loop-test .taken) (c .before .before .before .before .column-at .ensures) place (c .before .before .lay-column .ensures .1) ∙ l .inv .5,
+      row-step (l .left) (l .k) (a .records .now) r (l .reply) (c .before .before .lay-column .last .0) (a .base) (a .row) (l .place) (c .before .before .lay-column .result) (c .before .before .before .before .column-at .result) (c .before .before .before .before .before .loop-test .taken) (c .before .before .before .before .column-at .ensures) place (c .before .before .lay-column .ensures .laid) ∙ l .inv .5,
     )
 
 same-length : tie.Need-same-length Inv-loop μ-loop
@@ -70,7 +70,7 @@ returns : tie.Need-returns Inv-loop μ-loop
 returns c = let a = c .before .before .before .before .before .args in let l = c .before .loop in let f = a .fields in let r = rowOf (a .catalogue .now) f in
     let none = blocks-none (l .left) (l .k) (a .records .now) r (omega arith) in
     rw (← (fields-row (a .catalogue .now) (a .at) f (c .before .before .before .before .before .pre .read)))
-    (omega (arith, none, l .inv .4), sym (spans-none (l .left) (l .k) (a .records .now) r (l .reply) (a .base) (a .row) (l .place) (omega arith)) ∙ l .inv .5)
+    (record { placed = omega (arith, none, l .inv .4); laid = sym (spans-none (l .left) (l .k) (a .records .now) r (l .reply) (a .base) (a .row) (l .place) (omega arith)) ∙ l .inv .5 })
 
 pub lay-row-spec : {M : Type 1} → statement M
 lay-row-spec =
