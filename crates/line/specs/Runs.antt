@@ -11,13 +11,17 @@ unfoldable pub run : (ℕ → Bool) → List ℕ → ℕ
 run kind [] = 0
 run kind (b ∷ s) = pick (kind b) (suc (run kind s)) 0
 
+-- every byte but one
+abbrev pub unlike : ℕ → ℕ → Bool
+unlike sign b = not (eqb b sign)
+
 -- "one call a line": all bytes up to a line feed
 abbrev pub inLine : ℕ → Bool
-inLine b = not (eqb b 10)
+inLine = unlike 10
 
 -- "`#` starts a comment to the line's end": all bytes before it
 abbrev pub inCall : ℕ → Bool
-inCall b = not (eqb b 35)
+inCall = unlike 35
 
 -- "Words stand apart by spaces, tabs or carriage returns"
 abbrev pub separates : ℕ → Bool
@@ -25,6 +29,11 @@ separates b = either (eqb b 32) (either (eqb b 9) (eqb b 13))
 
 abbrev pub inWord : ℕ → Bool
 inWord b = not (separates b)
+
+-- those that separate words, or those of words
+abbrev pub separators : Bool → ℕ → Bool
+separators true = separates
+separators false = inWord
 
 -- the first word from a place on begins at its first byte that is no separator, and ends before the next separator
 abbrev pub wordStart : List ℕ → ℕ → ℕ

@@ -4,7 +4,7 @@ ghost use mathlib.Core.List.{_++_};
 ghost use Prim.Native.Nat.{_/_, _≤_, _+_};
 ghost use lib.ListN.{length, drop};
 ghost use Rattle.line.specs.Digits.{decimal, told, hexDigit, isDash, isHex, pairByte, hexBytes};
-ghost use Rattle.line.specs.Runs.{run, separates, inWord, inLine, inCall, sameBytes};
+ghost use Rattle.line.specs.Runs.{run, unlike, inLine, inCall, separates, inWord, separators, sameBytes};
 use line::Spelled;
 
 const MOST: u64 = 4294967295;
@@ -122,14 +122,14 @@ fn separates(byte: u8) -> bool
     byte == 13
 }
 
-// The place of the first line feed from a place on, or the end.
-pub fn before_feed(chunk: &[u8], at: usize) -> usize
-    requires { ⌜ at ≤ length (now chunk) ⌝ }
-    ensures { λ r. ⌜ (r ≡ at + run inLine (drop at (now (chunk .entry)))) × (at ≤ r) × (r ≤ length (now (chunk .entry))) ⌝ }
+// The place of the first such byte from a place on, or the end.
+fn until(bytes: &[u8], at: usize, sign: u8) -> usize
+    requires { ⌜ at ≤ length (now bytes) ⌝ }
+    ensures { λ r. ⌜ (r ≡ at + run (unlike sign) (drop at (now (bytes .entry)))) × (at ≤ r) × (r ≤ length (now (bytes .entry))) ⌝ }
 {
     let mut i = at;
-    while i < chunk.len() {
-        if chunk[i] == FEED {
+    while i < bytes.len() {
+        if bytes[i] == sign {
             return i;
         }
         i += 1;
@@ -137,13 +137,40 @@ pub fn before_feed(chunk: &[u8], at: usize) -> usize
     i
 }
 
+// The place of the first line feed from a place on, or the end.
+pub fn before_feed(chunk: &[u8], at: usize) -> usize
+    requires { ⌜ at ≤ length (now chunk) ⌝ }
+    ensures { λ r. ⌜ (r ≡ at + run inLine (drop at (now (chunk .entry)))) × (at ≤ r) × (r ≤ length (now (chunk .entry))) ⌝ }
+{
+    until(chunk, at, FEED)
+}
+
 // How many bytes stand before the comment.
 pub fn before_comment(line: &[u8]) -> usize
     ensures { λ r. ⌜ (r ≡ run inCall (now (line .entry))) × (r ≤ length (now (line .entry))) ⌝ }
 {
-    let mut i = 0;
+    until(line, 0, HASH)
+}
+
+// Whether a byte is one that separates words, or one that does not, as is asked.
+fn is_kind(byte: u8, separating: bool) -> bool
+    ensures { λ r. ⌜ r ≡ separators separating byte ⌝ }
+{
+    if separating {
+        return separates(byte);
+    }
+    !separates(byte)
+}
+
+// The place of the first byte from a place on that is of the other kind, or the end.
+fn past(line: &[u8], at: usize, separating: bool) -> usize
+    requires { ⌜ at ≤ length (now line) ⌝ }
+    ensures { λ r. ⌜ (r ≡ at + run (separators separating) (drop at (now (line .entry)))) × (at ≤ r)
+        × (r ≤ length (now (line .entry))) ⌝ }
+{
+    let mut i = at;
     while i < line.len() {
-        if line[i] == HASH {
+        if !is_kind(line[i], separating) {
             return i;
         }
         i += 1;
@@ -156,14 +183,7 @@ pub fn after_separators(line: &[u8], at: usize) -> usize
     requires { ⌜ at ≤ length (now line) ⌝ }
     ensures { λ r. ⌜ (r ≡ at + run separates (drop at (now (line .entry)))) × (at ≤ r) × (r ≤ length (now (line .entry))) ⌝ }
 {
-    let mut i = at;
-    while i < line.len() {
-        if !separates(line[i]) {
-            return i;
-        }
-        i += 1;
-    }
-    i
+    past(line, at, true)
 }
 
 // The place of the first separator from a place on.
@@ -171,14 +191,7 @@ pub fn after_word(line: &[u8], at: usize) -> usize
     requires { ⌜ at ≤ length (now line) ⌝ }
     ensures { λ r. ⌜ (r ≡ at + run inWord (drop at (now (line .entry)))) × (at ≤ r) × (r ≤ length (now (line .entry))) ⌝ }
 {
-    let mut i = at;
-    while i < line.len() {
-        if separates(line[i]) {
-            return i;
-        }
-        i += 1;
-    }
-    i
+    past(line, at, false)
 }
 
 // Two runs are the same bytes.

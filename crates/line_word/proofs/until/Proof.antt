@@ -1,6 +1,6 @@
 -- The run from the first place on is that from the present place on, with the bytes passed. Assumes nothing.
-use Rattle.line_word.proofs.before_feed.Statement.{statement}
-use Rattle.line_word.proofs.before_feed.Tie as tie
+use Rattle.line_word.proofs.until.Statement.{statement}
+use Rattle.line_word.proofs.until.Tie as tie
 use borrow.Author.Needs.{needs}
 use mathlib.Core.Path.{_≡_, refl, sym, ap, _∙_}
 use Prim.Native.Nat.{_+_, _-_, _≤_}
@@ -8,14 +8,14 @@ use native.Mathlib.Omega.{arith}
 use borrow.Author.Tests.{eq-eqb, ne-eqb}
 use lib.ListN.{length, drop}
 use mathlib.Core.Bool.{not}
-use Rattle.line.specs.Runs.{run, inLine}
+use Rattle.line.specs.Runs.{run, unlike}
 use Rattle.line.proofs.RunLaws.{run-more, run-stops, run-ends}
 
 abbrev Inv-loop : tie.InvT-loop
-Inv-loop s at i₀ i = (at ≤ i) × (i ≤ length s) × (at + run inLine (drop at s) ≡ i + run inLine (drop i s))
+Inv-loop s at sign i₀ i = (at ≤ i) × (i ≤ length s) × (at + run (unlike sign) (drop at s) ≡ i + run (unlike sign) (drop i s))
 
 abbrev μ-loop : tie.MeasureT-loop
-μ-loop s at i₀ i = length s - i
+μ-loop s at sign i₀ i = length s - i
 
 loop-holds : tie.Need-loop-holds Inv-loop μ-loop
 loop-holds c = (omega arith, c .pre, refl)
@@ -26,8 +26,9 @@ shared-slice-read-if1 c = search needs
 returns : tie.Need-returns Inv-loop μ-loop
 returns c =
     let l = c .before .before .before .loop in
-    let s = c .before .before .before .before .args .chunk .now in
-    (sym (l .inv .2 ∙ run-stops inLine s (l .i) (omega arith) (ap not (eq-eqb _ 10 (c .if1 .taken)))), l .inv .0, l .inv .1)
+    let a = c .before .before .before .before .args in
+    let s = a .bytes .now in
+    (sym (l .inv .2 ∙ run-stops (unlike (a .sign)) s (l .i) (omega arith) (ap not (eq-eqb _ _ (c .if1 .taken)))), l .inv .0, l .inv .1)
 
 add-i : tie.Need-add-i Inv-loop μ-loop
 add-i c = search needs
@@ -38,16 +39,17 @@ loop-less c = search needs
 loop-again : tie.Need-loop-again Inv-loop μ-loop
 loop-again c =
     let l = c .before .before .before .loop in
-    let s = c .before .before .before .before .args .chunk .now in
-    (omega arith, omega arith, l .inv .2 ∙ run-more inLine s (l .i) (omega arith) (ap not (ne-eqb _ 10 (c .if1 .left))))
+    let a = c .before .before .before .before .args in
+    let s = a .bytes .now in
+    (omega arith, omega arith, l .inv .2 ∙ run-more (unlike (a .sign)) s (l .i) (omega arith) (ap not (ne-eqb _ _ (c .if1 .left))))
 
 returns-2 : tie.Need-returns-2 Inv-loop μ-loop
 returns-2 c =
     let l = c .before .loop in
-    (sym (l .inv .2 ∙ run-ends inLine (c .before .before .args .chunk .now) (l .i) (omega arith)), l .inv .0, l .inv .1)
+    (sym (l .inv .2 ∙ run-ends (unlike (c .before .before .args .sign)) (c .before .before .args .bytes .now) (l .i) (omega arith)), l .inv .0, l .inv .1)
 
-pub before-feed-spec : {M : Type 1} → statement M
-before-feed-spec =
+pub until-spec : {M : Type 1} → statement M
+until-spec =
     tie.close
     (tie.spec
     Inv-loop
