@@ -1,5 +1,5 @@
 -- Laws of the place after a text and after a row. Assumes nothing.
-use mathlib.Core.Path.{_≡_, refl, sym, ap, _∙_}
+use mathlib.Core.Path.{_≡_, refl, _∙_}
 use mathlib.Core.List.{List}
 use Prim.Native.Nat.{ℕ}
 use native.Mathlib.Omega.{arith}
@@ -13,21 +13,17 @@ use Rattle.catalogue.specs.declared.TextAt.{TextAt}
 use Rattle.catalogue.specs.declared.TextAt.the-variants.{TextTo, NoText}
 use Rattle.catalogue.specs.declared.RowAt.the-variants.{RowTo, NoRow}
 use Rattle.catalogue.proofs.RowLaws.{text-read}
+use Rattle.catalogue.proofs.Found.{gone, there}
 
--- a text ends after its place, so a place of 0 says that there is none
+text-cases : (P : TextAt → Type 0) → P NoText → ((t : Text) (p : ℕ) → P (TextTo t p)) → (r : TextAt) → P r
+text-cases P bad to NoText = bad
+text-cases P bad to (TextTo t p) = to t p
+
 pub text-gone : (s : List ℕ) (at : ℕ) → textEnd (textAt s at) ≡ 0 → textAt s at ≡ NoText
-text-gone s at z = go (textAt s at) refl z
-  where
-    go : (r : TextAt) → textAt s at ≡ r → textEnd r ≡ 0 → r ≡ NoText
-    go NoText e w = refl
-    go (TextTo t p) e w = let r = text-read s at t p e in absurd (omega (arith, r .past, r .ends, w))
+text-gone s at = gone NoText TextTo text-cases textEnd (textAt s at) λ t p e w. let r = text-read s at t p e in omega (arith, r .past, r .ends, w)
 
 pub text-there : (s : List ℕ) (at n : ℕ) → n ≡ textEnd (textAt s at) → (n ≡ 0 → ⊥) → (t : Text) × (textAt s at ≡ TextTo t n)
-text-there s at n e z = go (textAt s at) e
-  where
-    go : (r : TextAt) → n ≡ textEnd r → (t : Text) × (r ≡ TextTo t n)
-    go NoText w = absurd (z w)
-    go (TextTo t p) w = (t, ap (TextTo t) (sym w))
+text-there s at n = there NoText TextTo text-cases textEnd refl (λ t p. refl) n (textAt s at)
 
 -- a row ends where its note ends
 note-ends : (r : TextAt) (fields : Text → Fields) → textEnd r ≡ rowEnd (withText r NoRow λ note p. RowTo (fields note) p)

@@ -7,6 +7,7 @@ pub mod Agree
 pub mod RoundTrip
 pub mod Vectors
 pub mod TextLaws
+pub mod Found
 pub mod EndLaws
 pub mod RowsLaws
 pub mod CheckLaws

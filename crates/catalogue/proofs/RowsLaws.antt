@@ -13,21 +13,17 @@ use Rattle.catalogue.specs.declared.Fields.{Fields}
 use Rattle.catalogue.specs.declared.RowAt.{RowAt}
 use Rattle.catalogue.specs.declared.RowAt.the-variants.{RowTo, NoRow}
 use Rattle.catalogue.proofs.RowLaws.{row-read}
+use Rattle.catalogue.proofs.Found.{gone, there}
 
--- a row ends after its place, so a place of 0 says that there is none
+row-cases : (P : RowAt → Type 0) → P NoRow → ((f : Fields) (p : ℕ) → P (RowTo f p)) → (r : RowAt) → P r
+row-cases P bad to NoRow = bad
+row-cases P bad to (RowTo f p) = to f p
+
 pub row-gone : (s : List ℕ) (at : ℕ) → rowEnd (rowAt s at) ≡ 0 → rowAt s at ≡ NoRow
-row-gone s at z = go (rowAt s at) refl z
-  where
-    go : (r : RowAt) → rowAt s at ≡ r → rowEnd r ≡ 0 → r ≡ NoRow
-    go NoRow e w = refl
-    go (RowTo f p) e w = let r = row-read s at f p e .note in absurd (omega (arith, r .past, r .ends, w))
+row-gone s at = gone NoRow RowTo row-cases rowEnd (rowAt s at) λ f p e w. let r = row-read s at f p e .note in omega (arith, r .past, r .ends, w)
 
 pub row-there : (s : List ℕ) (at n : ℕ) → n ≡ rowEnd (rowAt s at) → (n ≡ 0 → ⊥) → (f : Fields) × (rowAt s at ≡ RowTo f n)
-row-there s at n e z = go (rowAt s at) e
-  where
-    go : (r : RowAt) → n ≡ rowEnd r → (f : Fields) × (r ≡ RowTo f n)
-    go NoRow w = absurd (z w)
-    go (RowTo f p) w = (f, ap (RowTo f) (sym w))
+row-there s at n = there NoRow RowTo row-cases rowEnd refl (λ f p. refl) n (rowAt s at)
 
 -- the rows that are left, where there are some: one that was read, with its place noted, and then the others
 module _ (left : ℕ) (s : List ℕ) (at : ℕ) (places : List ℕ) (i : ℕ) (some-left : 0 < left) where

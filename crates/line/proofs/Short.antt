@@ -13,9 +13,9 @@ use Rattle.line.proofs.TextLaws.{hex-short}
 use Rattle.line.specs.Answer.{space, feed, reasonText, errorText, connectText, openText, endText, messageText, plain}
 
 -- the room that a word and a number leave
-pub room-after : (v room : ℕ) {s : List ℕ} {at m r : ℕ} {a b c : List ℕ} → Put s at m a b → Put (decimalText v) m r b c
-    → at + length s + 20 + room ≤ length a → length b ≡ length a → length c ≡ length b → r + room ≤ length c
-room-after v room p q h e f = omega (arith, p .next, q .next, numeral-short 20 v, h, e, f)
+pub room-after : (v room : ℕ) (word : List ℕ) {at r : ℕ} {a b : List ℕ} → Put (word ++ decimalText v) at r a b
+    → at + length word + 20 + room ≤ length a → length b ≡ length a → r + room ≤ length b
+room-after v room word p h e = omega (arith, p .next, length-append word (decimalText v), numeral-short 20 v, h, e)
 
 pub reason-short : (r : Reason) → length (reasonText r) ≤ 12
 reason-short UnknownCall = omega arith

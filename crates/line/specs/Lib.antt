@@ -1,6 +1,7 @@
 pub mod Runs
 pub mod Text
 pub mod Digits
+pub mod DigitsTold
 pub mod CallReady
 pub mod Line
 pub mod Answer

@@ -3,8 +3,8 @@ ghost use mathlib.Core.Path.{_≡_};
 ghost use mathlib.Core.List.{_++_};
 ghost use Prim.Native.Nat.{_+_, _*_, _/_, _≤_};
 ghost use lib.ListN.{length, take, drop};
-ghost use Rattle.line.specs.Digits.{hexBytes};
-ghost use Rattle.line.specs.Text.{Put, hexText, changed};
+ghost use Rattle.line.specs.DigitsTold.{Loaded};
+ghost use Rattle.line.specs.Text.{Put, decimalText, hexText, changed};
 ghost use Rattle.line.specs.Answer.{reasonText, errorText, connectText, openText, endText, messageText, plain};
 use line::Reason;
 use line_text::put;
@@ -26,13 +26,21 @@ fn put_reason(out: &mut [u8], at: usize, reason: Reason) -> usize
     }
 }
 
+// A word and a number.
+fn put_number(out: &mut [u8], at: usize, word: &[u8], value: u64) -> usize
+    requires { ⌜ at + length (now word) + 20 ≤ length (now out) ⌝ }
+    ensures { λ r. ⌜ Put (now (word .entry) ++ decimalText value) at r (now (out .entry)) (now (out .exit)) ⌝ }
+{
+    let number = put(out, at, word);
+    put_decimal(out, number, value)
+}
+
 // `error LINE` and the reason.
 pub fn put_error(out: &mut [u8], used: usize, line: u64, reason: Reason) -> usize
     requires { ⌜ used + plain ≤ length (now out) ⌝ }
     ensures { λ r. ⌜ Put (errorText line reason) used r (now (out .entry)) (now (out .exit)) ⌝ }
 {
-    let number = put(out, used, b"error ");
-    let space = put_decimal(out, number, line);
+    let space = put_number(out, used, b"error ", line);
     let text = put(out, space, b" ");
     let end = put_reason(out, text, reason);
     put(out, end, b"\n")
@@ -43,8 +51,7 @@ pub fn put_connect(out: &mut [u8], used: usize, refusal: u32) -> usize
     requires { ⌜ used + plain ≤ length (now out) ⌝ }
     ensures { λ r. ⌜ Put (connectText refusal) used r (now (out .entry)) (now (out .exit)) ⌝ }
 {
-    let number = put(out, used, b"connect ");
-    let end = put_decimal(out, number, refusal as u64);
+    let end = put_number(out, used, b"connect ", refusal as u64);
     put(out, end, b"\n")
 }
 
@@ -53,10 +60,8 @@ pub fn put_open(out: &mut [u8], used: usize, refusal: u32, handle: u32) -> usize
     requires { ⌜ used + plain ≤ length (now out) ⌝ }
     ensures { λ r. ⌜ Put (openText refusal handle) used r (now (out .entry)) (now (out .exit)) ⌝ }
 {
-    let number = put(out, used, b"open ");
-    let space = put_decimal(out, number, refusal as u64);
-    let second = put(out, space, b" ");
-    let end = put_decimal(out, second, handle as u64);
+    let space = put_number(out, used, b"open ", refusal as u64);
+    let end = put_number(out, space, b" ", handle as u64);
     put(out, end, b"\n")
 }
 
@@ -84,10 +89,8 @@ pub fn put_message(out: &mut [u8], used: usize, refusal: u32, reply: &[u8], coun
     requires { ⌜ (used + 2 * length (now reply) + plain ≤ length (now out)) × (count ≤ length (now reply)) ⌝ }
     ensures { λ r. ⌜ Put (messageText refusal count (now (reply .entry))) used r (now (out .entry)) (now (out .exit)) ⌝ }
 {
-    let number = put(out, used, b"message ");
-    let space = put_decimal(out, number, refusal as u64);
-    let second = put(out, space, b" ");
-    let gap = put_decimal(out, second, count as u64);
+    let space = put_number(out, used, b"message ", refusal as u64);
+    let gap = put_number(out, space, b" ", count as u64);
     let hex = put(out, gap, b" ");
     let end = put_first(out, hex, reply, count);
     put_end(out, end, reply, count)
@@ -96,7 +99,7 @@ pub fn put_message(out: &mut [u8], used: usize, refusal: u32, reply: &[u8], coun
 // The bytes that a part of the line spells. Answers how many they are.
 pub fn load(digits: &[u8], into: &mut [u8]) -> usize
     requires { ⌜ length (now digits) / 2 ≤ length (now into) ⌝ }
-    ensures { λ r. ⌜ (r ≡ length (now (digits .entry)) / 2) × (now (into .exit) ≡ hexBytes (now (digits .entry)) ++ drop (length (now (digits .entry)) / 2) (now (into .entry))) ⌝ }
+    ensures { λ r. ⌜ Loaded (now (digits .entry)) r (now (into .entry)) (now (into .exit)) ⌝ }
 {
     line_word::hex_bytes(digits, into);
     digits.len() / 2

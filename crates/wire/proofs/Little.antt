@@ -1,9 +1,9 @@
 -- Laws of the little-endian bytes of a number: how many there are, how they part, and that the number is read back.
 -- Assumes nothing.
-use mathlib.Core.Path.{_≡_, refl, ap, _∙_}
-use mathlib.Core.List.{List, _++_, append-assoc}
-use Prim.Native.Nat.{ℕ, zero, suc, _+_, _/_, _^_, _≤_, _<_}
-use native.Mathlib.Nat.{pow-suc, div-lt-iff-lt-mul}
+use mathlib.Core.Path.{_≡_, refl, sym, ap, ap₂, _∙_}
+use mathlib.Core.List.{List, _∷_, _++_, append-assoc}
+use Prim.Native.Nat.{ℕ, zero, suc, _+_, _/_, _%_, _^_, _≤_, _<_}
+use native.Mathlib.Nat.{zero-add, suc-add, pow-suc, pow-succ', div-one, div-div-eq-div-mul, div-lt-iff-lt-mul}
 use native.Mathlib.Omega.{arith}
 use lib.ListN.{length, length-append}
 use Rattle.wire.specs.Word.{number, numberAt, le}
@@ -16,20 +16,12 @@ unfolding le
 le-length zero v = refl
 le-length (suc n) v = ap suc (le-length n (v / 256))
 
--- the low half and the high half
-pub two-halves : (v : ℕ) → le 2 v ++ le 2 (v / 0x1_0000) ≡ le 4 v
+-- the low bytes and the high bytes
+pub le-join : (m n v : ℕ) → le m v ++ le n (v / 256 ^ m) ≡ le (m + n) v
 unfolding le
-two-halves v = rw (parts)
-  where
-    parts : v / 0x1_0000 ≡ v / 256 / 256
-    parts = omega arith
-
-pub two-words : (v : ℕ) → le 4 v ++ le 4 (v / 0x1_0000_0000) ≡ le 8 v
-unfolding le
-two-words v = rw (parts)
-  where
-    parts : v / 0x1_0000_0000 ≡ v / 256 / 256 / 256 / 256
-    parts = omega arith
+le-join zero n v = ap₂ le (sym (zero-add n)) (div-one v)
+le-join (suc m) n v =
+    rw (pow-succ' 256 m, ← (div-div-eq-div-mul v 256 (256 ^ m)), suc-add m n) (ap (λ (t : List ℕ). v % 256 ∷ t) (le-join m n (v / 256)))
 
 -- a number that n bytes hold is what they hold
 pub number-le : (n v : ℕ) → v < 256 ^ n → number (le n v) ≡ v
@@ -42,13 +34,11 @@ pub read-number : (t : List ℕ) (n at v : ℕ) → v < 256 ^ n → part t at n 
 unfolding numberAt
 read-number t n at v h e = ap number e ∙ number-le n v h
 
+-- a number laid in two parts
+pub lay-parts : (m n : ℕ) (t : List ℕ) (at v : ℕ) → at + m ≤ length t → lay (lay t at (le m v)) (at + m) (le n (v / 256 ^ m)) ≡ lay t at (le (m + n) v)
+lay-parts m n t at v h = lay-next t at m (le m v) (le n (v / 256 ^ m)) (le-length m v) h ∙ ap (lay t at) (le-join m n v)
+
 -- numbers laid one after the other
-pub lay-halves : (t : List ℕ) (at v : ℕ) → at + 2 ≤ length t → lay (lay t at (le 2 v)) (at + 2) (le 2 (v / 0x1_0000)) ≡ lay t at (le 4 v)
-lay-halves t at v h = lay-next t at 2 (le 2 v) (le 2 (v / 0x1_0000)) (le-length 2 v) h ∙ ap (lay t at) (two-halves v)
-
-pub lay-words : (t : List ℕ) (at v : ℕ) → at + 4 ≤ length t → lay (lay t at (le 4 v)) (at + 4) (le 4 (v / 0x1_0000_0000)) ≡ lay t at (le 8 v)
-lay-words t at v h = lay-next t at 4 (le 4 v) (le 4 (v / 0x1_0000_0000)) (le-length 4 v) h ∙ ap (lay t at) (two-words v)
-
 pub lay-fours : (t : List ℕ) (at a b c d : ℕ) → at + 12 ≤ length t
     → lay (lay (lay (lay t at (le 4 a)) (at + 4) (le 4 b)) (at + 8) (le 4 c)) (at + 12) (le 4 d) ≡ lay t at (fourWords a b c d)
 lay-fours t at a b c d h =

@@ -44,15 +44,13 @@ returns-4 c = let l = c .before .before .before .before .before .loop in
     let s = c .before .before .before .before .before .before .before .before .args .catalogue .now in
     sym (l .inv .2 ∙ carry-last-over (l .value) (l .weight) (l .room) s (l .i) (search needs) (search needs) (search needs))
 
-mul-t19 : tie.Need-mul-t19 Inv-loop μ-loop
-mul-t19 c = let l = c .before .before .before .before .before .loop in
-    let a = c .before .before .before .before .before .before .before .before in
-    omega (arith, a .fits .limit, added-fits (l .value) (l .weight) (l .room) (a .args .limit) (getD (a .args .catalogue .now) (l .i) 0) (l .inv .1) (c .if5 .left))
-
 add-t20 : tie.Need-add-t20 Inv-loop μ-loop
 add-t20 c = let l = c .before .before .before .before .before .loop in
     let a = c .before .before .before .before .before .before .before .before in
     omega (arith, a .fits .limit, added-fits (l .value) (l .weight) (l .room) (a .args .limit) (getD (a .args .catalogue .now) (l .i) 0) (l .inv .1) (c .if5 .left))
+
+mul-t19 : tie.Need-mul-t19 Inv-loop μ-loop
+mul-t19 c = omega (arith, add-t20 c)
 
 add-t21 : tie.Need-add-t21 Inv-loop μ-loop
 add-t21 c = search needs
@@ -74,15 +72,13 @@ returns-7 c = let l = c .before .before .before .before .before .loop in
     (l .inv .2
     ∙ carry-group-full (l .value) (l .weight) (l .room) s (l .i) (search needs) (search needs) (search needs) (c .if7 .taken))
 
-mul-value : tie.Need-mul-value Inv-loop μ-loop
-mul-value c = let l = c .before .before .before .before .before .loop in
-    let a = c .before .before .before .before .before .before .before .before in
-    omega (arith, a .fits .limit, added-fits (l .value) (l .weight) (l .room) (a .args .limit) (getD (a .args .catalogue .now) (l .i) 0 - 128) (l .inv .1) (c .before .if6 .left))
-
 add-value : tie.Need-add-value Inv-loop μ-loop
 add-value c = let l = c .before .before .before .before .before .loop in
     let a = c .before .before .before .before .before .before .before .before in
     omega (arith, a .fits .limit, added-fits (l .value) (l .weight) (l .room) (a .args .limit) (getD (a .args .catalogue .now) (l .i) 0 - 128) (l .inv .1) (c .before .if6 .left))
+
+mul-value : tie.Need-mul-value Inv-loop μ-loop
+mul-value c = omega (arith, add-value c)
 
 mul-weight : tie.Need-mul-weight Inv-loop μ-loop
 mul-weight c = let l = c .before .before .before .before .before .loop in

@@ -32,11 +32,11 @@ send-requires c κs = search needs
 slice-read-position : tie.Need-slice-read-position
 slice-read-position c = omega (arith, size-is _ _ _ _ _ (c .before .before .before .before .before .before .before .before .before .before .before .before .before .before .before .before .pre))
 
-cast-move-to : tie.Need-cast-move-to
-cast-move-to c = let a = c .before .before .before .before .before .before .before .before .before .before .before .before .before .before .before .before .before in omega (arith, c .before .before .before .before .send .ensures .counted, sent-most _ _ _ _ _ (a .pre), count-most _ _ _ _ _ (a .pre))
-
 add-move-to : tie.Need-add-move-to
 add-move-to c = let a = c .before .before .before .before .before .before .before .before .before .before .before .before .before .before .before .before .before in omega (arith, c .before .before .before .before .send .ensures .counted, sent-most _ _ _ _ _ (a .pre), count-most _ _ _ _ _ (a .pre))
+
+cast-move-to : tie.Need-cast-move-to
+cast-move-to c = omega (arith, add-move-to c)
 
 move-to-requires : tie.Need-move-to-requires
 move-to-requires c κs = size-is _ _ _ _ _ (c .before .before .before .before .before .before .before .before .before .before .before .before .before .before .before .before .before .pre)

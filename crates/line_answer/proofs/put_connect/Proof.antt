@@ -1,30 +1,27 @@
 -- The words of the answer, one after the other. Assumes nothing.
 use native.Mathlib.Omega.{arith}
-use Rattle.line.proofs.Numeral.{numeral-short}
-use Rattle.line.proofs.TextLaws.{put-then}
-use Rattle.line.specs.Answer.{connectText}
+use mathlib.Core.List.{_++_}
+use Rattle.line.specs.Line.{connectName}
+use Rattle.line.specs.Answer.{space, connectText}
 use Rattle.line.proofs.Short.{room-after}
+use Rattle.line.proofs.TextLaws.{put-then}
 use borrow.Author.Needs.{needs}
 use Rattle.line_answer.proofs.put_connect.Statement.{statement}
 use Rattle.line_answer.proofs.put_connect.Tie as tie
+
+slice-aggregate-put-number : tie.Need-slice-aggregate-put-number
+slice-aggregate-put-number c = search needs
+
+put-number-requires : tie.Need-put-number-requires
+put-number-requires c κs = search needs
 
 slice-aggregate-put : tie.Need-slice-aggregate-put
 slice-aggregate-put c = search needs
 
 put-requires : tie.Need-put-requires
-put-requires c κs = search needs
-
-put-decimal-requires : tie.Need-put-decimal-requires
-put-decimal-requires c κs = search needs
-
-slice-aggregate-put-2 : tie.Need-slice-aggregate-put-2
-slice-aggregate-put-2 c = search needs
-
-put-requires-2 : tie.Need-put-requires-2
-put-requires-2 c κs =
-    let one = c .before .before .before .before .before .before .before .before .put in
-    let two = c .before .before .before .before .put-decimal in
-    room-after (c .before .before .before .before .before .before .before .before .before .before .before .before .args .refusal) 1 (one .ensures) (two .ensures) (omega (arith, c .before .before .before .before .before .before .before .before .before .before .before .before .pre)) (one .kept .0) (two .kept .0)
+put-requires c κs =
+    let one = c .before .before .before .before .put-number in
+    room-after (c .before .before .before .before .before .before .before .before .args .refusal) 1 (connectName ++ space) (one .ensures) (omega (arith, c .before .before .before .before .before .before .before .before .pre)) (one .kept .0)
 
 same-length : tie.Need-same-length
 same-length c = search needs
@@ -32,20 +29,17 @@ same-length c = search needs
 returns : tie.Need-returns
 unfolding connectText
 returns c =
-    let a = c .before .before .before .before .before .before .before .before .before .before .before .before .before .before .before .args in
-    let one = c .before .before .before .before .before .before .before .before .before .before .before .put in
-    let two = c .before .before .before .before .before .before .before .put-decimal in
-    let most = numeral-short 20 (a .refusal) in
-    put-then (one .ensures) (put-then (two .ensures) (c .before .before .put2 .ensures) (omega (arith, most, one .ensures .next, one .kept, two .ensures .next, c .before .before .before .before .before .before .before .before .before .before .before .before .before .before .before .pre))) (omega (arith, one .ensures .next, c .before .before .before .before .before .before .before .before .before .before .before .before .before .before .before .pre))
+    let one = c .before .before .before .before .before .before .before .put-number in
+    let room = room-after (c .before .before .before .before .before .before .before .before .before .before .before .args .refusal) 1 (connectName ++ space) (one .ensures) (omega (arith, c .before .before .before .before .before .before .before .before .before .before .before .pre)) (one .kept .0) in
+    put-then (one .ensures) (c .before .before .put .ensures) (omega (arith, room, one .kept))
 
 pub put-connect-spec : {M : Type 1} → statement M
 put-connect-spec =
     tie.close
     (tie.spec
+    slice-aggregate-put-number
+    put-number-requires
     slice-aggregate-put
     put-requires
-    put-decimal-requires
-    slice-aggregate-put-2
-    put-requires-2
     same-length
     returns)

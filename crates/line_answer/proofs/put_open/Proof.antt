@@ -1,39 +1,41 @@
 -- The words of the answer, one after the other. Assumes nothing.
 use native.Mathlib.Omega.{arith}
-use Rattle.line.proofs.Numeral.{numeral-short}
-use Rattle.line.proofs.TextLaws.{put-then}
-use Rattle.line.specs.Answer.{openText}
+use mathlib.Core.List.{_++_}
+use Rattle.line.specs.Line.{openName}
+use Rattle.line.specs.Answer.{space, openText}
 use Rattle.line.proofs.Short.{room-after}
+use Rattle.line.proofs.TextLaws.{put-then}
 use borrow.Author.Needs.{needs}
 use Rattle.line_answer.proofs.put_open.Statement.{statement}
 use Rattle.line_answer.proofs.put_open.Tie as tie
+
+slice-aggregate-put-number : tie.Need-slice-aggregate-put-number
+slice-aggregate-put-number c = search needs
+
+put-number-requires : tie.Need-put-number-requires
+put-number-requires c κs = search needs
+
+slice-aggregate-put-number-2 : tie.Need-slice-aggregate-put-number-2
+slice-aggregate-put-number-2 c = search needs
+
+put-number-requires-2 : tie.Need-put-number-requires-2
+put-number-requires-2 c κs =
+    let a = c .before .before .before .before .before .before .before .before in
+    let one = c .before .before .before .before .put-number in
+    let first = room-after (a .args .refusal) 22 (openName ++ space) (one .ensures) (omega (arith, a .pre)) (one .kept .0) in
+    omega (arith, first)
 
 slice-aggregate-put : tie.Need-slice-aggregate-put
 slice-aggregate-put c = search needs
 
 put-requires : tie.Need-put-requires
-put-requires c κs = search needs
-
-put-decimal-requires : tie.Need-put-decimal-requires
-put-decimal-requires c κs = search needs
-
-slice-aggregate-put-2 : tie.Need-slice-aggregate-put-2
-slice-aggregate-put-2 c = search needs
-
-put-requires-2 : tie.Need-put-requires-2
-put-requires-2 c κs =
-    let one = c .before .before .before .before .before .before .before .before .put in
-    let two = c .before .before .before .before .put-decimal in
-    room-after (c .before .before .before .before .before .before .before .before .before .before .before .before .args .refusal) 1 (one .ensures) (two .ensures) (omega (arith, c .before .before .before .before .before .before .before .before .before .before .before .before .pre)) (one .kept .0) (two .kept .0)
-
-put-decimal-requires-2 : tie.Need-put-decimal-requires-2
-put-decimal-requires-2 c κs = omega (arith, c .before .before .before .put2 .ensures .next, c .before .before .before .put2 .kept, c .before .before .before .before .before .before .before .before .put-decimal .ensures .next, c .before .before .before .before .before .before .before .before .put-decimal .kept, numeral-short 20 (c .before .before .before .before .before .before .before .before .before .before .before .before .before .before .before .before .args .refusal), c .before .before .before .before .before .before .before .before .before .before .before .before .put .ensures .next, c .before .before .before .before .before .before .before .before .before .before .before .before .put .kept, c .before .before .before .before .before .before .before .before .before .before .before .before .before .before .before .before .pre)
-
-slice-aggregate-put-3 : tie.Need-slice-aggregate-put-3
-slice-aggregate-put-3 c = search needs
-
-put-requires-3 : tie.Need-put-requires-3
-put-requires-3 c κs = omega (arith, c .before .before .before .before .put-decimal2 .ensures .next, c .before .before .before .before .put-decimal2 .kept, numeral-short 20 (c .before .before .before .before .before .before .before .before .before .before .before .before .before .before .before .before .before .before .before .before .before .args .handle), c .before .before .before .before .before .before .before .before .put2 .ensures .next, c .before .before .before .before .before .before .before .before .put2 .kept, c .before .before .before .before .before .before .before .before .before .before .before .before .before .put-decimal .ensures .next, c .before .before .before .before .before .before .before .before .before .before .before .before .before .put-decimal .kept, numeral-short 20 (c .before .before .before .before .before .before .before .before .before .before .before .before .before .before .before .before .before .before .before .before .before .args .refusal), c .before .before .before .before .before .before .before .before .before .before .before .before .before .before .before .before .before .put .ensures .next, c .before .before .before .before .before .before .before .before .before .before .before .before .before .before .before .before .before .put .kept, c .before .before .before .before .before .before .before .before .before .before .before .before .before .before .before .before .before .before .before .before .before .pre)
+put-requires c κs =
+    let a = c .before .before .before .before .before .before .before .before .before .before .before .before .before in
+    let one = c .before .before .before .before .before .before .before .before .before .put-number in
+    let first = room-after (a .args .refusal) 22 (openName ++ space) (one .ensures) (omega (arith, a .pre)) (one .kept .0) in
+    let two = c .before .before .before .before .put-number2 in
+    let second = room-after (a .args .handle) 1 (space) (two .ensures) (omega (arith, first)) (two .kept .0) in
+    second
 
 same-length : tie.Need-same-length
 same-length c = search needs
@@ -41,30 +43,22 @@ same-length c = search needs
 returns : tie.Need-returns
 unfolding openText
 returns c =
-    let a = c .before .before .before .before .before .before .before .before .before .before .before .before .before .before .before .before .before .before .before .before .before .before .before .before .args in
-    let one = c .before .before .before .before .before .before .before .before .before .before .before .before .before .before .before .before .before .before .before .before .put in
-    let two = c .before .before .before .before .before .before .before .before .before .before .before .before .before .before .before .before .put-decimal in
-    let three = c .before .before .before .before .before .before .before .before .before .before .before .put2 in
-    let four = c .before .before .before .before .before .before .before .put-decimal2 in
-    put-then (one .ensures)
-    (put-then (two .ensures)
-    (put-then (three .ensures)
-    (put-then (four .ensures) (c .before .before .put3 .ensures) (omega (arith, one .ensures .next, one .kept, c .before .before .before .before .before .before .before .before .before .before .before .before .before .before .before .before .before .before .before .before .before .before .before .before .pre, numeral-short 20 (a .refusal), numeral-short 20 (a .handle), two .ensures .next, two .kept, three .ensures .next, three .kept, four .ensures .next)))
-    (omega (arith, one .ensures .next, one .kept, c .before .before .before .before .before .before .before .before .before .before .before .before .before .before .before .before .before .before .before .before .before .before .before .before .pre, numeral-short 20 (a .refusal), two .ensures .next, two .kept, three .ensures .next)))
-    (omega (arith, one .ensures .next, one .kept, c .before .before .before .before .before .before .before .before .before .before .before .before .before .before .before .before .before .before .before .before .before .before .before .before .pre, numeral-short 20 (a .refusal), two .ensures .next)))
-    (omega (arith, one .ensures .next, one .kept, c .before .before .before .before .before .before .before .before .before .before .before .before .before .before .before .before .before .before .before .before .before .before .before .before .pre, numeral-short 20 (a .refusal)))
+    let a = c .before .before .before .before .before .before .before .before .before .before .before .before .before .before .before .before in
+    let one = c .before .before .before .before .before .before .before .before .before .before .before .before .put-number in
+    let first = room-after (a .args .refusal) 22 (openName ++ space) (one .ensures) (omega (arith, a .pre)) (one .kept .0) in
+    let two = c .before .before .before .before .before .before .before .put-number2 in
+    let second = room-after (a .args .handle) 1 (space) (two .ensures) (omega (arith, first)) (two .kept .0) in
+    put-then (one .ensures) (put-then (two .ensures) (c .before .before .put .ensures) (omega (arith, second, two .kept))) (omega (arith, first, one .kept))
 
 pub put-open-spec : {M : Type 1} → statement M
 put-open-spec =
     tie.close
     (tie.spec
+    slice-aggregate-put-number
+    put-number-requires
+    slice-aggregate-put-number-2
+    put-number-requires-2
     slice-aggregate-put
     put-requires
-    put-decimal-requires
-    slice-aggregate-put-2
-    put-requires-2
-    put-decimal-requires-2
-    slice-aggregate-put-3
-    put-requires-3
     same-length
     returns)

@@ -3,7 +3,7 @@ use borrow.Author.Needs.{needs}
 use Rattle.wire_lay_word.proofs.lay_long.Statement.{statement}
 use Rattle.wire_lay_word.proofs.lay_long.Tie as tie
 use native.Mathlib.Omega.{arith}
-use Rattle.wire.proofs.Little.{lay-words}
+use Rattle.wire.proofs.Little.{lay-parts}
 
 lay-word-requires : tie.Need-lay-word-requires
 lay-word-requires c κs = search needs
@@ -19,7 +19,7 @@ same-length c = search needs
 
 returns : tie.Need-returns
 returns c = let a = c .before .before .before .before .before .before .before .before .before .args in
-    let h = lay-words (a .reply .now) (a .at) (a .value) (omega arith) in cc
+    let h = lay-parts 4 4 (a .reply .now) (a .at) (a .value) (omega arith) in cc
 
 pub lay-long-spec : {M : Type 1} → statement M
 lay-long-spec =

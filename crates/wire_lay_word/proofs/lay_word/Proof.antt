@@ -3,7 +3,7 @@ use borrow.Author.Needs.{needs}
 use Rattle.wire_lay_word.proofs.lay_word.Statement.{statement}
 use Rattle.wire_lay_word.proofs.lay_word.Tie as tie
 use native.Mathlib.Omega.{arith}
-use Rattle.wire.proofs.Little.{lay-halves}
+use Rattle.wire.proofs.Little.{lay-parts}
 
 lay-half-requires : tie.Need-lay-half-requires
 lay-half-requires c κs = search needs
@@ -19,7 +19,7 @@ same-length c = search needs
 
 returns : tie.Need-returns
 returns c = let a = c .before .before .before .before .before .before .before .before .before .args in
-    let h = lay-halves (a .reply .now) (a .at) (a .value) (omega arith) in cc
+    let h = lay-parts 2 2 (a .reply .now) (a .at) (a .value) (omega arith) in cc
 
 pub lay-word-spec : {M : Type 1} → statement M
 lay-word-spec =

@@ -53,7 +53,7 @@ same-length c = search needs
 
 returns-3 : tie.Need-returns-3
 returns-3 c = let v = c .before .before .before .before .before .before .call .given in let h = rw (v .1) at (c .before .before .before .before .before .before .before .before .before .before .pre .0) in
-    rw (v .1) (record { sized = c .before .before .load .ensures .0; left = c .before .before .load .ensures .1; fits = omega (arith, h .2, c .before .before .load .ensures .0, part-short (v .0 .1 .0 - v .0 .0) (drop (v .0 .0) (c .before .before .before .before .before .before .before .before .before .before .args .line .now))) })
+    rw (v .1) (record { sized = c .before .before .load .ensures .counted; left = c .before .before .load .ensures .laid; fits = omega (arith, h .2, c .before .before .load .ensures .counted, part-short (v .0 .1 .0 - v .0 .0) (drop (v .0 .0) (c .before .before .before .before .before .before .before .before .before .before .args .line .now))) })
 
 returns-4 : tie.Need-returns-4
 returns-4 c = rw (c .enum-told3 .given .1) (record { sized = refl; left = refl; fits = c .before .before .before .before .pre .1 })

@@ -44,7 +44,7 @@ returns : tie.Need-returns
 returns c =
     let a = c .before .before .before .before .before .before .before .before .before .before .before .before .before .before .before .before .before .before .args in
     let l = c .before .before .before .before .before .before .before .before .before .before .before .before .load in
-    let k = rw (loaded (a .digits .now) _ (l .result - 0) (omega (arith, l .ensures .0))) at (rw (l .ensures .1) at (c .before .before .before .before .before .reply .ensures)) in
+    let k = rw (loaded (a .digits .now) _ (l .result - 0) (omega (arith, l .ensures .counted))) at (rw (l .ensures .laid) at (c .before .before .before .before .before .reply .ensures)) in
     rw (part-size (a .room) (replicate 20000 0) (rw (length-replicate {A = ℕ} 20000 0) (c .before .before .before .before .before .before .before .before .before .before .before .before .before .before .before .before .before .before .pre .0))) at k
 
 pub message-spec : {M : Type 1} → statement M

@@ -37,7 +37,7 @@ returns : tie.Need-returns
 returns c =
     let a = c .before .before .before .before .before .before .before .before .before .before .before .before .before .before .before .before .before .before .args in
     let l = c .before .before .before .before .before .before .before .before .before .before .before .before .load in
-    let k = rw (loaded (a .digits .now) _ (l .result - 0) (omega (arith, l .ensures .0))) at (rw (l .ensures .1) at (c .before .before .before .before .before .before .before .«open» .ensures)) in
+    let k = rw (loaded (a .digits .now) _ (l .result - 0) (omega (arith, l .ensures .counted))) at (rw (l .ensures .laid) at (c .before .before .before .before .before .before .before .«open» .ensures)) in
     served-open (a .used) (c .before .before .put-open .result) _ _ _ _ _ _ k (c .before .before .put-open .ensures)
 
 pub open-spec : {M : Type 1} → statement M
