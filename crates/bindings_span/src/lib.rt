@@ -19,7 +19,7 @@ fn span_or(used: u32, place: u32, size: u32) -> Span
 }
 
 // The i-th span of the columns, three to a column; an empty one where it is not used.
-pub fn span_at(records: &[u32], index: usize) -> Span
+fn span_at(records: &[u32], index: usize) -> Span
     requires { ⌜ (length (now records) ≡ roomWords) × (index < spansMost) ⌝ }
     ensures { λ r. ⌜ r ≡ spanAt (now (records .entry)) index ⌝ }
 {
@@ -35,14 +35,14 @@ pub fn span_at(records: &[u32], index: usize) -> Span
 }
 
 // The place after a span, which need not fit 32 bits.
-pub fn end(span: Span) -> u64
+fn end(span: Span) -> u64
     ensures { λ r. ⌜ r ≡ span .place + span .size ⌝ }
 {
     (span.place as u64) + (span.size as u64)
 }
 
 // Whether two spans share no byte.
-pub fn apart(a: Span, b: Span) -> bool
+fn apart(a: Span, b: Span) -> bool
     ensures { λ r. ⌜ r ≡ apart a b ⌝ }
 {
     if end(a) <= (b.place as u64) {

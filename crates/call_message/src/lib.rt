@@ -12,11 +12,13 @@ pub fn message(
     message: &[u8],
     reply: &mut [u8],
 ) -> Answered
-    ensures { λ r. ⌜ Keeps (messageStep (sourcesOf (now (catalogue .entry))) (now (table .entry)) (seat .0) (now (message .entry)) (length (now (reply .entry)))) (r .refusal) 0 (r .count) (now (table .exit)) (now (reply .entry)) (now (reply .exit)) ⌝ }
+    ensures { λ r. ⌜ Keeps
+        (messageStep (sourcesOf (now (catalogue .entry))) (now (table .entry)) (seat .0)
+        (now (message .entry)) (length (now (reply .entry))))
+        (r .refusal) 0 (r .count) (now (table .exit)) (now (reply .entry)) (now (reply .exit)) ⌝ }
 {
-    let k = seat.0;
     let mut places = [0u32; catalogue::ROWS_MOST];
-    let judged = call_judge::judge(table, catalogue, k, &mut places);
+    let judged = call_judge::judge(table, catalogue, seat.0, &mut places);
     let refusal = judged.refusal;
     if refusal != 0 {
         return Answered { refusal, count: 0 };
@@ -39,7 +41,7 @@ pub fn message(
             count: 0,
         };
     }
-    let at = table::SEAT_SIZE * (k as usize);
+    let at = table::SEAT_SIZE * (seat.0 as usize);
     let end = at + table::SEAT_SIZE;
     message_answer::answer(&mut table[at..end], message, catalogue, &places, reply)
 }

@@ -7,7 +7,9 @@ use table::Seat;
 
 // Opens a query on a seat: the rows that the tree selects.
 pub fn open(table: &mut [u32], catalogue: &[u8], seat: Seat, tree: &[u8]) -> Opened
-    ensures { λ r. ⌜ Keeps (openStep (sourcesOf (now (catalogue .entry))) (now (table .entry)) (seat .0) (now (tree .entry))) (r .refusal) (r .handle .0) 0 (now (table .exit)) [] [] ⌝ }
+    ensures { λ r. ⌜ Keeps
+        (openStep (sourcesOf (now (catalogue .entry))) (now (table .entry)) (seat .0) (now (tree .entry)))
+        (r .refusal) (r .handle .0) 0 (now (table .exit)) [] [] ⌝ }
 {
     let k = seat.0;
     let mut places = [0u32; catalogue::ROWS_MOST];

@@ -1,5 +1,5 @@
-// The option catalogue: its numbers, texts and rows, the parser, the writer, and the same by places (01, "The option catalogue").
-// Definitions, laws, types and constants; no function.
+// The option catalogue: its numbers, texts and rows, the parser, the writer, and the same by places (01, "The option
+// catalogue"). Definitions, laws, types and constants; no function.
 
 // The limits: of a key, of a language and a default, of the number that a text begins with, of the rows, and of all bytes.
 pub const KEY_MOST: u64 = 0xffff_ffff;

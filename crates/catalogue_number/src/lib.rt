@@ -9,7 +9,7 @@ use catalogue::Reading;
 // The number that begins at a place, if it is well formed and at most the limit, where the group there has its top bit set
 // and holds `low` beside it. What the groups to come may hold at most is `room`, so neither the value nor the weight can pass
 // the limit.
-pub fn read_further(catalogue: &[u8], at: usize, low: u64, limit: u64) -> Reading
+fn read_further(catalogue: &[u8], at: usize, low: u64, limit: u64) -> Reading
     requires { ⌜ at < length (now catalogue) ⌝ }
     ensures { λ r. ⌜ r ≡ placed at (within limit (further low (groups (drop (at + 1) (now (catalogue .entry)))))) ⌝ }
 {

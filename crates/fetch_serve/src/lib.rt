@@ -48,8 +48,10 @@ fn judge(cursor: &[u32], request: Request) -> u32
 
 // A row is asked for and remains, but the first does not fit.
 fn first_unfit(cursor: &[u32], request: Request, catalogue: &[u8], places: &[u32]) -> bool
-    requires { ⌜ FetchReady (now cursor) (now catalogue) (now places) request (request .size) × (firstCause (earlyCauses (cursorHeld (now cursor)) request) ≡ 0) ⌝ }
-    ensures { λ r. ⌜ r ≡ firstUnfit (cursorHeld (now (cursor .entry))) request (remaining (rowsIn (now (catalogue .entry))) (cursorHeld (now (cursor .entry)))) ⌝ }
+    requires { ⌜ FetchReady (now cursor) (now catalogue) (now places) request (request .size)
+        × (firstCause (earlyCauses (cursorHeld (now cursor)) request) ≡ 0) ⌝ }
+    ensures { λ r. ⌜ r ≡ firstUnfit (cursorHeld (now (cursor .entry))) request
+        (remaining (rowsIn (now (catalogue .entry))) (cursorHeld (now (cursor .entry)))) ⌝ }
 {
     if request.asked == 0 {
         return false;
@@ -76,7 +78,8 @@ fn send(
     places: &[u32],
     reply: &mut [u8],
 ) -> usize
-    requires { ⌜ FetchReady (now cursor) (now catalogue) (now places) request (length (now reply)) × (firstCause (earlyCauses (cursorHeld (now cursor)) request) ≡ 0) ⌝ }
+    requires { ⌜ FetchReady (now cursor) (now catalogue) (now places) request (length (now reply))
+        × (firstCause (earlyCauses (cursorHeld (now cursor)) request) ≡ 0) ⌝ }
     ensures { λ r. ⌜ RowsSent (rowsIn (now (catalogue .entry))) (cursorHeld (now (cursor .entry))) request r
         (now (reply .entry)) (now (reply .exit)) ⌝ }
 {
@@ -115,7 +118,8 @@ pub fn fetch(
     reply: &mut [u8],
 ) -> u32
     requires { ⌜ FetchReady (now cursor) (now catalogue) (now places) request (length (now reply)) ⌝ }
-    ensures { λ r. ⌜ Fetched (now (cursor .entry)) (now (catalogue .entry)) request r (now (cursor .exit)) (now (reply .entry)) (now (reply .exit)) ⌝ }
+    ensures { λ r. ⌜ Fetched (now (cursor .entry)) (now (catalogue .entry)) request r (now (cursor .exit))
+        (now (reply .entry)) (now (reply .exit)) ⌝ }
 {
     let refusal = judge(cursor, request);
     if refusal != 0 {

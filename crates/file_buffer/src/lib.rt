@@ -1,4 +1,5 @@
-// The buffers of a file of recorded calls: a line is kept as its bytes come, the waiting output is written, and a chunk is read.
+// The buffers of a file of recorded calls: a line is kept as its bytes come, the waiting output is written, and a
+// chunk is read.
 ghost use mathlib.Core.Path.{_≡_};
 ghost use Prim.Native.Nat.{_≤_};
 ghost use lib.ListN.{length};
@@ -12,7 +13,8 @@ use line::Reason;
 // Keeps the bytes of a part of a line, as far as there is room.
 pub fn keep(line: &mut [u8], place: Place, part: &[u8]) -> Place
     requires { ⌜ PlaceReady (length (now line)) place ⌝ }
-    ensures { λ r. ⌜ Kept (now (line .entry)) place (now (part .entry)) r (now (line .exit)) × PlaceReady (length (now (line .entry))) r ⌝ }
+    ensures { λ r. ⌜ Kept (now (line .entry)) place (now (part .entry)) r (now (line .exit))
+        × PlaceReady (length (now (line .entry))) r ⌝ }
 {
     let kept = place.kept;
     let room = line.len() - kept;

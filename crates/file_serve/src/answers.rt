@@ -35,7 +35,9 @@ fn reply(
     used: usize,
 ) -> usize
     requires { ⌜ (length (now space) ≤ roomMost) × (used + answerMost ≤ length (now out)) ⌝ }
-    ensures { λ r. ⌜ Serves (replied (messageStep (sourcesOf (now (catalogue .entry))) (now (table .entry)) seat (now (bytes .entry)) (length (now (space .entry))))) used r (now (table .exit)) (now (out .entry)) (now (out .exit)) ⌝ }
+    ensures { λ r. ⌜ Serves (replied (messageStep (sourcesOf (now (catalogue .entry))) (now (table .entry)) seat
+        (now (bytes .entry)) (length (now (space .entry))))) used r (now (table .exit)) (now (out .entry))
+        (now (out .exit)) ⌝ }
 {
     line_text::fill(space);
     let answered = call_message::message(table, catalogue, table::Seat(seat), bytes, space);
@@ -55,7 +57,8 @@ fn message(
     used: usize,
 ) -> usize
     requires { ⌜ (room ≤ roomMost) × (length (now digits) / 2 ≤ bytesMost) × (used + answerMost ≤ length (now out)) ⌝ }
-    ensures { λ r. ⌜ Serves (replied (messageStep (sourcesOf (now (catalogue .entry))) (now (table .entry)) seat (hexBytes (now (digits .entry))) room)) used r (now (table .exit)) (now (out .entry)) (now (out .exit)) ⌝ }
+    ensures { λ r. ⌜ Serves (replied (messageStep (sourcesOf (now (catalogue .entry))) (now (table .entry)) seat
+        (hexBytes (now (digits .entry))) room)) used r (now (table .exit)) (now (out .entry)) (now (out .exit)) ⌝ }
 {
     let mut bytes = [0u8; 20000];
     let mut space = [0u8; 20000];
@@ -81,7 +84,9 @@ fn open(
     used: usize,
 ) -> usize
     requires { ⌜ (length (now digits) / 2 ≤ bytesMost) × (used + answerMost ≤ length (now out)) ⌝ }
-    ensures { λ r. ⌜ Serves (opened (openStep (sourcesOf (now (catalogue .entry))) (now (table .entry)) seat (hexBytes (now (digits .entry))))) used r (now (table .exit)) (now (out .entry)) (now (out .exit)) ⌝ }
+    ensures { λ r. ⌜ Serves (opened
+        (openStep (sourcesOf (now (catalogue .entry))) (now (table .entry)) seat (hexBytes (now (digits .entry)))))
+        used r (now (table .exit)) (now (out .entry)) (now (out .exit)) ⌝ }
 {
     let mut bytes = [0u8; 20000];
     let size = line_answer::load(digits, &mut bytes);
@@ -102,8 +107,10 @@ pub fn serve(
     out: &mut [u8],
     used: usize,
 ) -> usize
-    requires { ⌜ CallReady (length (now line)) call × (indexMost < length (now table)) × (used + answerMost ≤ length (now out)) ⌝ }
-    ensures { λ r. ⌜ Serves (answerTo call (now (line .entry)) number (now (table .entry)) (now (catalogue .entry))) used r (now (table .exit)) (now (out .entry)) (now (out .exit)) ⌝ }
+    requires { ⌜ CallReady (length (now line)) call × (indexMost < length (now table))
+        × (used + answerMost ≤ length (now out)) ⌝ }
+    ensures { λ r. ⌜ Serves (answerTo call (now (line .entry)) number (now (table .entry)) (now (catalogue .entry)))
+        used r (now (table .exit)) (now (out .entry)) (now (out .exit)) ⌝ }
 {
     match call {
         Call::Nothing => used,
@@ -113,23 +120,14 @@ pub fn serve(
             let refusal = call_connect::connect(table, catalogue, table::Seat(seat), version);
             line_answer::put_connect(out, used, refusal)
         }
-        Call::Open(seat, first, last) => open(
-            table,
-            catalogue,
-            seat,
-            &line[first..last],
-            out,
-            used,
-        ),
-        Call::Message(seat, room, first, last) => message(
-            table,
-            catalogue,
-            seat,
-            room as usize,
-            &line[first..last],
-            out,
-            used,
-        ),
+        Call::Open(seat, first, last) => {
+            let digits = &line[first..last];
+            open(table, catalogue, seat, digits, out, used)
+        }
+        Call::Message(seat, room, first, last) => {
+            let digits = &line[first..last];
+            message(table, catalogue, seat, room as usize, digits, out, used)
+        }
         Call::Word(index, value) => {
             let at = index as usize;
             table[at] = value;

@@ -17,8 +17,11 @@ fn serve(
     catalogue: &mut [u8],
     out: &mut [u8],
 ) -> Place
-    requires { ⌜ PlaceReady (length (now line)) place × BuffersReady (length (now line)) (length (now table)) (length (now catalogue)) (length (now out)) ⌝ }
-    ensures { λ r. ⌜ LineServed (now (line .entry)) place (now (table .entry)) (now (catalogue .entry)) (now (out .entry)) r (now (table .exit)) (now (catalogue .exit)) (now (out .exit)) × PlaceReady (length (now (line .entry))) r ⌝ }
+    requires { ⌜ PlaceReady (length (now line)) place
+        × BuffersReady (length (now line)) (length (now table)) (length (now catalogue)) (length (now out)) ⌝ }
+    ensures { λ r. ⌜ LineServed (now (line .entry)) place (now (table .entry)) (now (catalogue .entry))
+        (now (out .entry)) r (now (table .exit)) (now (catalogue .exit)) (now (out .exit))
+        × PlaceReady (length (now (line .entry))) r ⌝ }
 {
     let kept = place.kept;
     let number = place.number;
@@ -53,7 +56,8 @@ fn serve_chunk(
     catalogue: &mut [u8],
     out: &mut [u8],
 ) -> Place
-    requires { ⌜ PlaceReady (length (now line)) place × BuffersReady (length (now line)) (length (now table)) (length (now catalogue)) (length (now out)) ⌝ }
+    requires { ⌜ PlaceReady (length (now line)) place
+        × BuffersReady (length (now line)) (length (now table)) (length (now catalogue)) (length (now out)) ⌝ }
     ensures { λ r. ⌜ PlaceReady (length (now (line .entry))) r ⌝ }
 {
     let mut here = place;

@@ -2,7 +2,8 @@
 ghost use mathlib.Core.Path.{_≡_};
 ghost use Prim.Native.Nat.{_≤_};
 ghost use lib.ListN.{length};
-ghost use Rattle.line.specs.Line.{numberWord, hexWord, whole, catalogueFrom, connectFrom, openFrom, messageFrom, roomFrom, wordFrom, callOf};
+ghost use Rattle.line.specs.Line.{numberWord, hexWord, whole, callOf};
+ghost use Rattle.line.specs.Line.{catalogueFrom, connectFrom, openFrom, messageFrom, roomFrom, wordFrom};
 ghost use Rattle.line.specs.CallReady.{numberEnds, hexEnds, CallReady};
 use line::BYTES_MOST;
 use line::CATALOGUE_MOST;

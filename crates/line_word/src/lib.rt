@@ -96,7 +96,8 @@ fn pair(high: u8, low: u8) -> u8
 // The bytes that pairs of hex digits spell.
 pub fn hex_bytes(digits: &[u8], out: &mut [u8])
     requires { ⌜ length (now digits) / 2 ≤ length (now out) ⌝ }
-    ensures { λ _. ⌜ now (out .exit) ≡ hexBytes (now (digits .entry)) ++ drop (length (now (digits .entry)) / 2) (now (out .entry)) ⌝ }
+    ensures { λ _. ⌜ now (out .exit) ≡ hexBytes (now (digits .entry)) ++ drop (length (now (digits .entry)) / 2)
+        (now (out .entry)) ⌝ }
 {
     let mut i = 0;
     while i < digits.len() / 2 {
@@ -125,7 +126,8 @@ fn separates(byte: u8) -> bool
 // The place of the first such byte from a place on, or the end.
 fn until(bytes: &[u8], at: usize, sign: u8) -> usize
     requires { ⌜ at ≤ length (now bytes) ⌝ }
-    ensures { λ r. ⌜ (r ≡ at + run (unlike sign) (drop at (now (bytes .entry)))) × (at ≤ r) × (r ≤ length (now (bytes .entry))) ⌝ }
+    ensures { λ r. ⌜ (r ≡ at + run (unlike sign) (drop at (now (bytes .entry)))) × (at ≤ r)
+        × (r ≤ length (now (bytes .entry))) ⌝ }
 {
     let mut i = at;
     while i < bytes.len() {

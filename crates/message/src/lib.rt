@@ -1,5 +1,5 @@
-// What a message does to its seat: the four messages, their refusals in order, and what each leaves (01, "Header and checksum", the
-// refusal table and the paragraphs under it). Definitions, laws, types and constants; no function.
+// What a message does to its seat: the four messages, their refusals in order, and what each leaves (01, "Header and
+// checksum", the refusal table and the paragraphs under it). Definitions, laws, types and constants; no function.
 
 // The kinds of message served.
 pub const KINDS: usize = 4;

@@ -24,7 +24,8 @@ fn rebind(seat: &mut [u32], handle: u32, records: &[u32], count: u32, width: u32
 // Set bindings: they replace the old, and the position stays.
 fn bind(seat: &mut [u32], message: &[u8], reply: &mut [u8], msg: u32) -> Answered
     requires { ⌜ AdmittedReady (now seat) (now message) (now reply) msg 3 ⌝ }
-    ensures { λ r. ⌜ AnswersAny (now (seat .entry)) (now (message .entry)) r (now (seat .exit)) (now (reply .entry)) (now (reply .exit)) ⌝ }
+    ensures { λ r. ⌜ AnswersAny (now (seat .entry)) (now (message .entry)) r (now (seat .exit)) (now (reply .entry))
+        (now (reply .exit)) ⌝ }
 {
     let mut records = [0u32; bindings::ROOM_WORDS];
     let read = bindings_read::read(message, &mut records);
@@ -58,8 +59,11 @@ fn fetch(
     reply: &mut [u8],
     msg: u32,
 ) -> Answered
-    requires { ⌜ AdmittedReady (now seat) (now message) (now reply) msg 2 × SourcesReady (now seat) (now catalogue) (now places) ⌝ }
-    ensures { λ r. ⌜ Answers (seatMessage (rowsIn (now (catalogue .entry))) (seatOf (now (seat .entry))) (now (message .entry))) r (now (seat .exit)) (now (reply .entry)) (now (reply .exit)) ⌝ }
+    requires { ⌜ AdmittedReady (now seat) (now message) (now reply) msg 2
+        × SourcesReady (now seat) (now catalogue) (now places) ⌝ }
+    ensures { λ r. ⌜ Answers
+        (seatMessage (rowsIn (now (catalogue .entry))) (seatOf (now (seat .entry))) (now (message .entry))) r
+        (now (seat .exit)) (now (reply .entry)) (now (reply .exit)) ⌝ }
 {
     let Asking::Asked(request) = fetch_request::read(message) else {
         return message_gate::refuse(reply, msg, 9);
@@ -90,7 +94,9 @@ pub fn answer(
     reply: &mut [u8],
 ) -> Answered
     requires { ⌜ MessageReady (now seat) (now message) (now reply) × SourcesReady (now seat) (now catalogue) (now places) ⌝ }
-    ensures { λ r. ⌜ Answers (seatMessage (rowsIn (now (catalogue .entry))) (seatOf (now (seat .entry))) (now (message .entry))) r (now (seat .exit)) (now (reply .entry)) (now (reply .exit)) ⌝ }
+    ensures { λ r. ⌜ Answers
+        (seatMessage (rowsIn (now (catalogue .entry))) (seatOf (now (seat .entry))) (now (message .entry))) r
+        (now (seat .exit)) (now (reply .entry)) (now (reply .exit)) ⌝ }
 {
     let msg = wire_word::word(message, 0);
     let kind = message_gate::kind(msg);

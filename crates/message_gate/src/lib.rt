@@ -78,7 +78,8 @@ fn tested(kind: usize) -> bool
 
 // Refusals 6 to 8.
 pub fn gate(seat: &[u32], message: &[u8], kind: usize) -> u32
-    requires { ⌜ (length (now seat) ≡ seatSize) × (headerSize ≤ length (now message)) × (length (now message) ≤ messageMost) × (kind ≡ kindOf (msgOf (now message))) ⌝ }
+    requires { ⌜ (length (now seat) ≡ seatSize) × (headerSize ≤ length (now message))
+        × (length (now message) ≤ messageMost) × (kind ≡ kindOf (msgOf (now message))) ⌝ }
     ensures { λ r. ⌜ r ≡ firstCause (gateCauses (seatOf (now (seat .entry))) (now (message .entry))) ⌝ }
 {
     if message::KINDS <= kind {

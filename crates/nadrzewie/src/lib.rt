@@ -55,7 +55,9 @@ pub extern "C" fn nadrzewie_connect(
     seat: Seat,
     version: u32,
 ) -> u32
-    ensures { λ r. ⌜ Keeps (connectStep (sourcesOf (now (catalogue .entry))) (now (table .entry)) (seat .number) version) r 0 0 (now (table .exit)) [] [] ⌝ }
+    ensures { λ r. ⌜ Keeps
+        (connectStep (sourcesOf (now (catalogue .entry))) (now (table .entry)) (seat .number) version) r 0 0
+        (now (table .exit)) [] [] ⌝ }
 {
     call_connect::connect(table, catalogue, table::Seat(seat.number), version)
 }
@@ -68,7 +70,9 @@ pub extern "C" fn nadrzewie_open(
     seat: Seat,
     tree: &[u8],
 ) -> Opened
-    ensures { λ r. ⌜ Keeps (openStep (sourcesOf (now (catalogue .entry))) (now (table .entry)) (seat .number) (now (tree .entry))) (r .refusal) (r .handle .number) 0 (now (table .exit)) [] [] ⌝ }
+    ensures { λ r. ⌜ Keeps
+        (openStep (sourcesOf (now (catalogue .entry))) (now (table .entry)) (seat .number) (now (tree .entry)))
+        (r .refusal) (r .handle .number) 0 (now (table .exit)) [] [] ⌝ }
 {
     let opened = call_open::open(table, catalogue, table::Seat(seat.number), tree);
     let refusal = opened.refusal;
@@ -88,7 +92,9 @@ pub extern "C" fn nadrzewie_message(
     message: &[u8],
     reply: &mut [u8],
 ) -> Answered
-    ensures { λ r. ⌜ Keeps (messageStep (sourcesOf (now (catalogue .entry))) (now (table .entry)) (seat .number) (now (message .entry)) (length (now (reply .entry)))) (r .refusal) 0 (r .count) (now (table .exit)) (now (reply .entry)) (now (reply .exit)) ⌝ }
+    ensures { λ r. ⌜ Keeps (messageStep (sourcesOf (now (catalogue .entry))) (now (table .entry)) (seat .number)
+        (now (message .entry)) (length (now (reply .entry)))) (r .refusal) 0 (r .count) (now (table .exit))
+        (now (reply .entry)) (now (reply .exit)) ⌝ }
 {
     let answered = call_message::message(
         table,

@@ -22,7 +22,8 @@ use page::FieldAt;
 // A text's block: its units and one zero unit.
 fn lay_text(reply: &mut [u8], catalogue: &[u8], text: Text, place: usize)
     requires { ⌜ UnitsReady (now catalogue) text × (0 < text .size) × (place + 2 * text .size ≤ length (now reply)) ⌝ }
-    ensures { λ _. ⌜ now (reply .exit) ≡ lay (now (reply .entry)) place (blockOf (halves (unitsPart (now (catalogue .entry)) text))) ⌝ }
+    ensures { λ _. ⌜ now (reply .exit) ≡ lay (now (reply .entry)) place
+        (blockOf (halves (unitsPart (now (catalogue .entry)) text))) ⌝ }
 {
     let units = catalogue_row::units(catalogue, text);
     wire_lay::lay_bytes(reply, place, units);
@@ -32,8 +33,10 @@ fn lay_text(reply: &mut [u8], catalogue: &[u8], text: Text, place: usize)
 
 // A field's block, where the value is used and there is one.
 fn lay_block(reply: &mut [u8], catalogue: &[u8], used: u32, field: FieldAt, place: usize)
-    requires { ⌜ FieldReady (now catalogue) field × (place + pick (isUsed used) (blockSize (fieldSeen (now catalogue) field)) 0 ≤ length (now reply)) ⌝ }
-    ensures { λ _. ⌜ now (reply .exit) ≡ lays (now (reply .entry)) (pick (isUsed used) (blockSpan place (fieldSeen (now (catalogue .entry)) field)) []) ⌝ }
+    requires { ⌜ FieldReady (now catalogue) field
+        × (place + pick (isUsed used) (blockSize (fieldSeen (now catalogue) field)) 0 ≤ length (now reply)) ⌝ }
+    ensures { λ _. ⌜ now (reply .exit) ≡ lays (now (reply .entry))
+        (pick (isUsed used) (blockSpan place (fieldSeen (now (catalogue .entry)) field)) []) ⌝ }
 {
     if used != 1 {
         return;
@@ -57,7 +60,8 @@ fn lay_variant(reply: &mut [u8], at: usize, kind: u64, number: u64)
 // A column's cell, where its value is used.
 fn lay_value(reply: &mut [u8], column: Column, row: usize, kind: u64, number: u64)
     requires { ⌜ SpansReady (length (now reply)) row column ⌝ }
-    ensures { λ _. ⌜ now (reply .exit) ≡ lays (now (reply .entry)) (laidIf (column .value .used) (row + column .value .offset) (cellBytes (column .property) (column .vtype) kind number)) ⌝ }
+    ensures { λ _. ⌜ now (reply .exit) ≡ lays (now (reply .entry)) (laidIf (column .value .used)
+        (row + column .value .offset) (cellBytes (column .property) (column .vtype) kind number)) ⌝ }
 {
     if column.value.used != 1 {
         return;
@@ -73,7 +77,8 @@ fn lay_value(reply: &mut [u8], column: Column, row: usize, kind: u64, number: u6
 // A column's status byte, where it is used.
 fn lay_status(reply: &mut [u8], column: Column, row: usize, status: u8)
     requires { ⌜ SpansReady (length (now reply)) row column ⌝ }
-    ensures { λ _. ⌜ now (reply .exit) ≡ lays (now (reply .entry)) (laidIf (column .status .used) (row + column .status .offset) (status ∷ [])) ⌝ }
+    ensures { λ _. ⌜ now (reply .exit) ≡ lays (now (reply .entry))
+        (laidIf (column .status .used) (row + column .status .offset) (status ∷ [])) ⌝ }
 {
     if column.status.used != 1 {
         return;
@@ -85,7 +90,8 @@ fn lay_status(reply: &mut [u8], column: Column, row: usize, status: u8)
 // A column's length, where it is used.
 fn lay_length(reply: &mut [u8], column: Column, row: usize, value: u64)
     requires { ⌜ SpansReady (length (now reply)) row column ⌝ }
-    ensures { λ _. ⌜ now (reply .exit) ≡ lays (now (reply .entry)) (laidIf (column .length .used) (row + column .length .offset) (le lengthSize value)) ⌝ }
+    ensures { λ _. ⌜ now (reply .exit) ≡ lays (now (reply .entry))
+        (laidIf (column .length .used) (row + column .length .offset) (le lengthSize value)) ⌝ }
 {
     if column.length.used != 1 {
         return;
@@ -105,7 +111,8 @@ pub fn lay_column(
     top: usize,
 ) -> usize
     requires { ⌜ ColumnReady (length (now reply)) (now catalogue) fields column base row top ⌝ }
-    ensures { λ r. ⌜ ColumnLaid base row top column (rowOf (now (catalogue .entry)) fields) r (now (reply .entry)) (now (reply .exit)) ⌝ }
+    ensures { λ r. ⌜ ColumnLaid base row top column (rowOf (now (catalogue .entry)) fields) r (now (reply .entry))
+        (now (reply .exit)) ⌝ }
 {
     let found = page_field::field(fields, column.property);
     let place = top - page_field::room_of(column.value.used, found);

@@ -12,6 +12,7 @@ ghost use Rattle.page.specs.PageTold.{RowLaid};
 ghost use Rattle.page.specs.RowReady.{RecordsReady, blocksMost, RowReady};
 use catalogue::Fields;
 use page::Row;
+use page::Sheet;
 
 // The place of a row in the catalogue, by its number.
 pub fn place_of(places: &[u32], row: Row) -> usize
@@ -34,7 +35,8 @@ pub fn row_blocks(
     bound: usize,
 ) -> usize
     requires { ⌜ RecordsReady (now records) bound × (fields ≡ fieldsSeen (now catalogue) at) ⌝ }
-    ensures { λ r. ⌜ (r ≡ blocks (columnsOf bound (now (records .entry))) (rowSeen (now (catalogue .entry)) at)) × (r ≤ blocksMost) ⌝ }
+    ensures { λ r. ⌜ (r ≡ blocks (columnsOf bound (now (records .entry))) (rowSeen (now (catalogue .entry)) at))
+        × (r ≤ blocksMost) ⌝ }
 {
     let mut total = 0;
     let mut k = 0;
@@ -57,8 +59,10 @@ pub fn room_of(
     bound: usize,
     width: usize,
 ) -> usize
-    requires { ⌜ RecordsReady (now records) bound × (width ≤ rowMost) × RowAtReady (now catalogue) (getD (now places) (row .0) 0) ⌝ }
-    ensures { λ r. ⌜ r ≡ width + blocks (columnsOf bound (now (records .entry))) (rowSeen (now (catalogue .entry)) (getD (now (places .entry)) (row .0) 0)) ⌝ }
+    requires { ⌜ RecordsReady (now records) bound × (width ≤ rowMost)
+        × RowAtReady (now catalogue) (getD (now places) (row .0) 0) ⌝ }
+    ensures { λ r. ⌜ r ≡ width + blocks (columnsOf bound (now (records .entry)))
+        (rowSeen (now (catalogue .entry)) (getD (now (places .entry)) (row .0) 0)) ⌝ }
 {
     let at = place_of(places, row);
     let fields = catalogue_row::fields_at(catalogue, at);
@@ -72,21 +76,20 @@ pub fn lay_row(
     at: usize,
     fields: Fields,
     records: &[u32],
-    bound: usize,
-    base: u64,
+    sheet: Sheet,
     row: usize,
     top: usize,
 ) -> usize
-    requires { ⌜ RowReady (length (now reply)) (now catalogue) at fields (now records) bound base row top ⌝ }
-    ensures { λ r. ⌜ RowLaid base row top (columnsOf bound (now (records .entry))) (rowSeen (now (catalogue .entry)) at) r
-        (now (reply .entry)) (now (reply .exit)) ⌝ }
+    requires { ⌜ RowReady (length (now reply)) (now catalogue) at fields (now records) (sheet .bound) (sheet .base) row top ⌝ }
+    ensures { λ r. ⌜ RowLaid (sheet .base) row top (columnsOf (sheet .bound) (now (records .entry)))
+        (rowSeen (now (catalogue .entry)) at) r (now (reply .entry)) (now (reply .exit)) ⌝ }
 {
     let mut place = top;
     let mut k = 0;
-    let mut left = bound;
+    let mut left = sheet.bound;
     while 0 < left {
         let column = bindings_record::column_at(records, k);
-        place = page_column::lay_column(reply, catalogue, fields, column, base, row, place);
+        place = page_column::lay_column(reply, catalogue, fields, column, sheet.base, row, place);
         k += 1;
         left -= 1;
     }

@@ -10,8 +10,8 @@ use catalogue::Fields;
 use page::Row;
 use page::Sheet;
 
-// The rows with these numbers, as many as are asked for, remain and fit, with their blocks below the reply's end. Their count is
-// given back. Each row is read once.
+// The rows with these numbers, as many as are asked for, remain and fit, with their blocks below the reply's end.
+// Their count is given back. Each row is read once.
 fn lay_rows(
     reply: &mut [u8],
     catalogue: &[u8],
@@ -21,8 +21,8 @@ fn lay_rows(
     sheet: Sheet,
 ) -> usize
     requires { ⌜ RowsReady (length (now reply)) (now records) sheet × NumbersReady (now catalogue) (now places) (now numbers) ⌝ }
-    ensures { λ r. ⌜ RowsLaid sheet (now (records .entry)) (now (catalogue .entry)) (now (places .entry)) (now (numbers .entry)) r
-        (now (reply .entry)) (now (reply .exit)) ⌝ }
+    ensures { λ r. ⌜ RowsLaid sheet (now (records .entry)) (now (catalogue .entry)) (now (places .entry))
+        (now (numbers .entry)) r (now (reply .entry)) (now (reply .exit)) ⌝ }
 {
     let mut row = sheet.from;
     let mut top = sheet.size;
@@ -38,17 +38,7 @@ fn lay_rows(
         if top - row < need {
             return sent;
         }
-        top = page_row::lay_row(
-            reply,
-            catalogue,
-            at,
-            fields,
-            records,
-            sheet.bound,
-            sheet.base,
-            row,
-            top,
-        );
+        top = page_row::lay_row(reply, catalogue, at, fields, records, sheet, row, top);
         row += sheet.width;
         sent += 1;
     }
@@ -65,8 +55,8 @@ fn status_for(remaining: usize) -> u32
     0
 }
 
-// The whole reply with the first of the rows that have these numbers: as many as are asked for, remain and fit. Their count is given
-// back.
+// The whole reply with the first of the rows that have these numbers: as many as are asked for, remain and fit. Their
+// count is given back.
 pub fn page(
     reply: &mut [u8],
     catalogue: &[u8],
@@ -77,8 +67,8 @@ pub fn page(
 ) -> usize
     requires { ⌜ PageReady (length (now reply)) (now records) sheet (length (now numbers))
         × NumbersReady (now catalogue) (now places) (now numbers) ⌝ }
-    ensures { λ r. ⌜ Paged sheet (now (records .entry)) (now (catalogue .entry)) (now (places .entry)) (now (numbers .entry)) r
-        (now (reply .entry)) (now (reply .exit)) ⌝ }
+    ensures { λ r. ⌜ Paged sheet (now (records .entry)) (now (catalogue .entry)) (now (places .entry))
+        (now (numbers .entry)) r (now (reply .entry)) (now (reply .exit)) ⌝ }
 {
     wire_lay::clear_first(reply, sheet.size);
     let sent = lay_rows(reply, catalogue, places, numbers, records, sheet);

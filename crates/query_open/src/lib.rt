@@ -62,7 +62,8 @@ fn fill(
     rows: u32,
     places: &[u32; catalogue::ROWS_MOST],
 )
-    requires { ⌜ (now cursor ≡ cursorWords none) × (isTree (restriction (now tree)) ≡ true) × NotedReady (now catalogue) rows (now places) ⌝ }
+    requires { ⌜ (now cursor ≡ cursorWords none) × (isTree (restriction (now tree)) ≡ true)
+        × NotedReady (now catalogue) rows (now places) ⌝ }
     ensures { λ _. ⌜ now (cursor .exit) ≡ cursorWords (some (opened (selected (now (tree .entry)) (now (catalogue .entry))))) ⌝ }
 {
     let count = tree_select::select(
@@ -84,8 +85,10 @@ pub fn open(
     rows: u32,
     places: &[u32; catalogue::ROWS_MOST],
 )
-    requires { ⌜ (length (now seat) ≡ seatSize) × (part (now seat) (cursorPlace handle) cursorSize ≡ cursorWords none) × (isTree (restriction (now tree)) ≡ true) × NotedReady (now catalogue) rows (now places) ⌝ }
-    ensures { λ _. ⌜ now (seat .exit) ≡ put (now (seat .entry)) (cursorPlace handle) cursorSize (cursorWords (some (opened (selected (now (tree .entry)) (now (catalogue .entry)))))) ⌝ }
+    requires { ⌜ (length (now seat) ≡ seatSize) × (part (now seat) (cursorPlace handle) cursorSize ≡ cursorWords none)
+        × (isTree (restriction (now tree)) ≡ true) × NotedReady (now catalogue) rows (now places) ⌝ }
+    ensures { λ _. ⌜ now (seat .exit) ≡ put (now (seat .entry)) (cursorPlace handle) cursorSize
+        (cursorWords (some (opened (selected (now (tree .entry)) (now (catalogue .entry)))))) ⌝ }
 {
     let at = table_handle::cursor_at(handle);
     let end = at + table::CURSOR_SIZE;

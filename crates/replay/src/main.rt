@@ -3,7 +3,11 @@
 fn usage() {
     io::write_all(
         2,
-        b"usage: replay CALLS-FILE    a line is one of: catalogue HEX | connect SEAT VERSION | open SEAT HEX | message SEAT ROOM HEX | word INDEX VALUE (# starts a comment, - is empty HEX)\n",
+        b"usage: replay CALLS-FILE    a line is one of: catalogue HEX | connect SEAT VERSION | open SEAT HEX",
+    );
+    io::write_all(
+        2,
+        b" | message SEAT ROOM HEX | word INDEX VALUE (# starts a comment, - is empty HEX)\n",
     );
 }
 

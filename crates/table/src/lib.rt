@@ -21,8 +21,8 @@ pub const FIRST: usize = 2;
 
 pub const SECOND: usize = 1076;
 
-// In a cursor's words: whether it is open, its position, the counts of its rows and of its columns, the row width, the records of
-// its columns, and the numbers of its rows.
+// In a cursor's words: whether it is open, its position, the counts of its rows and of its columns, the row width,
+// the records of its columns, and the numbers of its rows.
 pub const OPEN: usize = 0;
 
 pub const POSITION: usize = 1;

@@ -1,5 +1,5 @@
-// Whether a tree holds for a row. The tree was judged before, so that nothing of it is judged again for each row: the words of its nodes
-// are read at their places.
+// Whether a tree holds for a row. The tree was judged before, so that nothing of it is judged again for each row: the
+// words of its nodes are read at their places.
 ghost use mathlib.Core.Path.{_≡_};
 ghost use mathlib.Core.Bool.{true};
 ghost use Prim.Native.Nat.{_+_, _≤_};

@@ -23,8 +23,8 @@ fn holds_at(tree: &[u8], catalogue: &[u8], place: u32) -> bool
     tree_hold::holds(tree, catalogue, row)
 }
 
-// The numbers of the selected rows go into the lent words from the first on; their count is returned. Each row is read once, at the
-// place that the check noted.
+// The numbers of the selected rows go into the lent words from the first on; their count is returned. Each row is
+// read once, at the place that the check noted.
 pub fn select(
     tree: &[u8],
     catalogue: &[u8],
@@ -32,7 +32,8 @@ pub fn select(
     places: &[u32; catalogue::ROWS_MOST],
     into: &mut [u32],
 ) -> u32
-    requires { ⌜ (isTree (restriction (now tree)) ≡ true) × NotedReady (now catalogue) rows (now places) × (rowsMost ≤ length (now into)) ⌝ }
+    requires { ⌜ (isTree (restriction (now tree)) ≡ true) × NotedReady (now catalogue) rows (now places)
+        × (rowsMost ≤ length (now into)) ⌝ }
     ensures { λ r. ⌜ Selected (now (tree .entry)) (now (catalogue .entry)) (now (into .entry)) r (now (into .exit)) ⌝ }
 {
     let mut count: u32 = 0;

@@ -3,7 +3,8 @@ ghost use mathlib.Core.Path.{_≡_};
 ghost use Prim.Native.Nat.{_^_, _<_};
 ghost use Rattle.tree.specs.VerdictTold.{told, turned, withChild};
 
-// A node's answer in one number, since two would be passed in memory: twice the place after the node, and one more where it holds.
+// A node's answer in one number, since two would be passed in memory: twice the place after the node, and one more
+// where it holds.
 pub fn told(holds: bool, end: usize) -> usize
     requires { ⌜ end < 2 ^ 63 ⌝ }
     ensures { λ r. ⌜ r ≡ told holds end ⌝ }

@@ -1,6 +1,6 @@
-// Bytes on the wire: little-endian words, the header of a message and its checksum, padding, properties with their types and sizes,
-// and bytes laid over a buffer (01, "Header and checksum", and the set identifier and property numbers of "The option catalogue").
-// Definitions, laws, types and constants; no function.
+// Bytes on the wire: little-endian words, the header of a message and its checksum, padding, properties with their
+// types and sizes, and bytes laid over a buffer (01, "Header and checksum", and the set identifier and property
+// numbers of "The option catalogue"). Definitions, laws, types and constants; no function.
 
 // A place after padding.
 pub enum PlaceRead {

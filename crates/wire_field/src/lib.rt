@@ -1,4 +1,5 @@
-// The fields of a message and of a tree, each read at a place counted from the first byte: padding, numbers, flags and properties.
+// The fields of a message and of a tree, each read at a place counted from the first byte: padding, numbers, flags
+// and properties.
 ghost use mathlib.Core.Path.{_≡_};
 ghost use Prim.Native.Nat.{_+_, _%_, _≤_, _<_};
 ghost use lib.Dec.{leb};

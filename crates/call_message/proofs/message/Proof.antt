@@ -74,19 +74,19 @@ part-answer-start c = search needs
 
 part-answer-end : tie.Need-part-answer-end
 part-answer-end c =
-    let a = c .before .before .before .before .before .before .before .before .before .before .before .args in
-    let e = sym (c .before .before .before .before .judge .ensures .refused) ∙ c .before .before .before .if1 .left in
+    let a = c .before .before .before .before .before .before .before .before .before .before .before .before .args in
+    let e = sym (c .before .before .before .before .before .judge .ensures .refused) ∙ c .before .before .before .before .if1 .left in
     let p = passes (sourcesOf (a .catalogue .now)) (a .table .now) (a .seat .0) e in
     omega (arith, p .seat-in, table-length (a .table .now) (p .table-in))
 
 slice-aggregate-answer : tie.Need-slice-aggregate-answer
-slice-aggregate-answer c = sym (noted-length _ _ _ _ _ _ (c .before .before .before .before .before .before .judge .ensures) (c .before .before .before .before .before .if1 .left) (length-replicate {A = ℕ} 1024 0))
+slice-aggregate-answer c = sym (noted-length _ _ _ _ _ _ (c .before .before .before .before .before .before .before .judge .ensures) (c .before .before .before .before .before .before .if1 .left) (length-replicate {A = ℕ} 1024 0))
 
 answer-requires : tie.Need-answer-requires
 answer-requires c κs =
-    let a = c .before .before .before .before .before .before .before .before .before .before .before .before .before .before .args in
-    let j = c .before .before .before .before .before .before .before .judge .ensures in
-    let z = c .before .before .before .before .before .before .if1 .left in
+    let a = c .before .before .before .before .before .before .before .before .before .before .before .before .before .before .before .args in
+    let j = c .before .before .before .before .before .before .before .before .judge .ensures in
+    let z = c .before .before .before .before .before .before .before .if1 .left in
     let e = sym (j .refused) ∙ z in
     let t = a .table .now in
     let s = a .catalogue .now in
@@ -94,9 +94,9 @@ answer-requires c κs =
       record {
         size = ap length (part-is t (seatSize * a .seat .0) seatSize) ∙ part-size t (table-length t (p .table-in)) (a .seat .0) (p .seat-in);
         well = ap seatWell (part-is t (seatSize * a .seat .0) seatSize) ∙ table-seat t (p .table-in) (a .seat .0) (p .seat-in);
-        least = c .before .before .before .before .if3 .left;
-        most = c .before .before .before .if4 .left;
-        room = c .before .before .before .before .before .if2 .left;
+        least = c .before .before .before .before .before .if3 .left;
+        most = c .before .before .before .before .if4 .left;
+        room = c .before .before .before .before .before .before .if2 .left;
       },
       sourced s t (a .seat .0) _ _ (p .seat-in) (p .rows-in)
           (places-noted s t _ _ (a .seat .0) _ j z (p .rows-in) (omega (arith, length-replicate {A = ℕ} 1024 0))),
@@ -110,9 +110,9 @@ same-length-6 c = search needs
 
 returns-5 : tie.Need-returns-5
 returns-5 c =
-    let a = c .before .before .before .before .before .before .before .before .before .before .before .before .before .before .before .before .before .before .before .args in
-    let e = sym (c .before .before .before .before .before .before .before .before .before .before .before .before .judge .ensures .refused) ∙ c .before .before .before .before .before .before .before .before .before .before .before .if1 .left in
-    message-answered (sourcesOf (a .catalogue .now)) (a .table .now) (a .seat .0) (a .message .now) (a .reply .now) e (c .before .before .before .before .before .before .before .before .before .before .if2 .left) (c .before .before .before .before .before .before .before .before .before .if3 .left) (c .before .before .before .before .before .before .before .before .if4 .left) _ _ _
+    let a = c .before .before .before .before .before .before .before .before .before .before .before .before .before .before .before .before .before .before .before .before .args in
+    let e = sym (c .before .before .before .before .before .before .before .before .before .before .before .before .before .judge .ensures .refused) ∙ c .before .before .before .before .before .before .before .before .before .before .before .before .if1 .left in
+    message-answered (sourcesOf (a .catalogue .now)) (a .table .now) (a .seat .0) (a .message .now) (a .reply .now) e (c .before .before .before .before .before .before .before .before .before .before .before .if2 .left) (c .before .before .before .before .before .before .before .before .before .before .if3 .left) (c .before .before .before .before .before .before .before .before .before .if4 .left) _ _ _
     (rw (part-is (a .table .now) (seatSize * a .seat .0) seatSize) at (c .before .before .before .before .answer .ensures))
 
 pub message-spec : {M : Type 1} → statement M

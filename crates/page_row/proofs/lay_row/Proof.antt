@@ -17,10 +17,10 @@ use Rattle.page.proofs.Found.{fields-stand, fields-row}
 use Rattle.page.proofs.RowSteps.{blocks-more, blocks-none, spans-none, row-step}
 
 abbrev Inv-loop : tie.InvT-loop
-Inv-loop reply₀ s at fields words bound base row top place₀ k₀ left₀ reply place k left = (k + left ≡ bound) × (length reply ≡ length reply₀) × (place ≤ top) × (blocks (columnsFrom left k words) (rowOf s fields) ≤ place) × (place - blocks (columnsFrom left k words) (rowOf s fields) ≡ top - blocks (columnsOf bound words) (rowOf s fields)) × (lays reply (rowSpans base row place (columnsFrom left k words) (rowOf s fields)) ≡ lays reply₀ (rowSpans base row top (columnsOf bound words) (rowOf s fields)))
+Inv-loop reply₀ s at fields words sheet row top place₀ k₀ left₀ reply place k left = (k + left ≡ sheet .bound) × (length reply ≡ length reply₀) × (place ≤ top) × (blocks (columnsFrom left k words) (rowOf s fields) ≤ place) × (place - blocks (columnsFrom left k words) (rowOf s fields) ≡ top - blocks (columnsOf (sheet .bound) words) (rowOf s fields)) × (lays reply (rowSpans (sheet .base) row place (columnsFrom left k words) (rowOf s fields)) ≡ lays reply₀ (rowSpans (sheet .base) row top (columnsOf (sheet .bound) words) (rowOf s fields)))
 
 abbrev μ-loop : tie.MeasureT-loop
-μ-loop reply₀ s at fields words bound base row top place₀ k₀ left₀ reply place k left = left
+μ-loop reply₀ s at fields words sheet row top place₀ k₀ left₀ reply place k left = left
 
 loop-holds : tie.Need-loop-holds Inv-loop μ-loop
 loop-holds c = let a = c .before .before .before .args in
@@ -60,7 +60,7 @@ loop-again c = let a = c .before .before .before .before .before .before .before
       omega (arith, place, l .inv .2),
       omega (arith, place, more, same, l .inv .3),
       omega (arith, place, more, same, l .inv .3, l .inv .4),
-      row-step (l .left) (l .k) (a .records .now) r (l .reply) (c .before .before .lay-column .last .0) (a .base) (a .row) (l .place) (c .before .before .lay-column .result) (c .before .before .before .before .column-at .result) (c .before .before .before .before .before .loop-test .taken) (c .before .before .before .before .column-at .ensures) place (c .before .before .lay-column .ensures .laid) ∙ l .inv .5,
+      row-step (l .left) (l .k) (a .records .now) r (l .reply) (c .before .before .lay-column .last .0) (a .sheet .base) (a .row) (l .place) (c .before .before .lay-column .result) (c .before .before .before .before .column-at .result) (c .before .before .before .before .before .loop-test .taken) (c .before .before .before .before .column-at .ensures) place (c .before .before .lay-column .ensures .laid) ∙ l .inv .5,
     )
 
 same-length : tie.Need-same-length Inv-loop μ-loop
@@ -70,7 +70,7 @@ returns : tie.Need-returns Inv-loop μ-loop
 returns c = let a = c .before .before .before .before .before .args in let l = c .before .loop in let f = a .fields in let r = rowOf (a .catalogue .now) f in
     let none = blocks-none (l .left) (l .k) (a .records .now) r (omega arith) in
     rw (← (fields-row (a .catalogue .now) (a .at) f (c .before .before .before .before .before .pre .read)))
-    (record { placed = omega (arith, none, l .inv .4); laid = sym (spans-none (l .left) (l .k) (a .records .now) r (l .reply) (a .base) (a .row) (l .place) (omega arith)) ∙ l .inv .5 })
+    (record { placed = omega (arith, none, l .inv .4); laid = sym (spans-none (l .left) (l .k) (a .records .now) r (l .reply) (a .sheet .base) (a .row) (l .place) (omega arith)) ∙ l .inv .5 })
 
 pub lay-row-spec : {M : Type 1} → statement M
 lay-row-spec =

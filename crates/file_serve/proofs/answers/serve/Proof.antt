@@ -32,14 +32,14 @@ put-connect-requires c κs = search needs
 enum-known-call-3 : tie.Need-enum-known-call-3
 enum-known-call-3 c = search needs
 
-sub-open : tie.Need-sub-open
-sub-open c = let h = rw (c .before .before .call3 .given .1) at (c .before .before .before .before .before .before .before .before .pre .0) in omega (arith, h .0)
+sub-digits : tie.Need-sub-digits
+sub-digits c = let h = rw (c .before .call3 .given .1) at (c .before .before .before .before .before .before .before .pre .0) in omega (arith, h .0)
 
-part-open-start : tie.Need-part-open-start
-part-open-start c = let h = rw (c .before .before .call3 .given .1) at (c .before .before .before .before .before .before .before .before .pre .0) in omega (arith, h .0)
+part-digits-start : tie.Need-part-digits-start
+part-digits-start c = let h = rw (c .before .call3 .given .1) at (c .before .before .before .before .before .before .before .pre .0) in omega (arith, h .0)
 
-part-open-end : tie.Need-part-open-end
-part-open-end c = let h = rw (c .before .before .call3 .given .1) at (c .before .before .before .before .before .before .before .before .pre .0) in omega (arith, h .1)
+part-digits-end : tie.Need-part-digits-end
+part-digits-end c = let h = rw (c .before .call3 .given .1) at (c .before .before .before .before .before .before .before .pre .0) in omega (arith, h .1)
 
 open-requires : tie.Need-open-requires
 open-requires c κs = let v = c .before .before .before .before .call3 .given in let h = rw (v .1) at (c .before .before .before .before .before .before .before .before .before .before .pre .0) in
@@ -48,17 +48,17 @@ open-requires c κs = let v = c .before .before .before .before .call3 .given in
 enum-known-call-4 : tie.Need-enum-known-call-4
 enum-known-call-4 c = search needs
 
+sub-digits-2 : tie.Need-sub-digits-2
+sub-digits-2 c = let h = rw (c .before .call4 .given .1) at (c .before .before .before .before .before .before .before .pre .0) in omega (arith, h .1)
+
+part-digits-start-2 : tie.Need-part-digits-start-2
+part-digits-start-2 c = let h = rw (c .before .call4 .given .1) at (c .before .before .before .before .before .before .before .pre .0) in omega (arith, h .1)
+
+part-digits-end-2 : tie.Need-part-digits-end-2
+part-digits-end-2 c = let h = rw (c .before .call4 .given .1) at (c .before .before .before .before .before .before .before .pre .0) in omega (arith, h .2)
+
 cast-message : tie.Need-cast-message
 cast-message c = search needs
-
-sub-message : tie.Need-sub-message
-sub-message c = let h = rw (c .before .before .call4 .given .1) at (c .before .before .before .before .before .before .before .before .pre .0) in omega (arith, h .1)
-
-part-message-start : tie.Need-part-message-start
-part-message-start c = let h = rw (c .before .before .call4 .given .1) at (c .before .before .before .before .before .before .before .before .pre .0) in omega (arith, h .1)
-
-part-message-end : tie.Need-part-message-end
-part-message-end c = let h = rw (c .before .before .call4 .given .1) at (c .before .before .before .before .before .before .before .before .pre .0) in omega (arith, h .2)
 
 message-requires : tie.Need-message-requires
 message-requires c κs = let v = c .before .before .before .before .call4 .given in let h = rw (v .1) at (c .before .before .before .before .before .before .before .before .before .before .pre .0) in
@@ -133,15 +133,15 @@ serve-spec =
     connect-requires
     put-connect-requires
     enum-known-call-3
-    sub-open
-    part-open-start
-    part-open-end
+    sub-digits
+    part-digits-start
+    part-digits-end
     open-requires
     enum-known-call-4
+    sub-digits-2
+    part-digits-start-2
+    part-digits-end-2
     cast-message
-    sub-message
-    part-message-start
-    part-message-end
     message-requires
     enum-known-call-5
     cast-at
