@@ -105,8 +105,8 @@ const COLUMNS_AT: usize = 36;
 // Reads the columns, to the message's end, and keeps the first five. False where they are malformed.
 fn read_columns(message: &[u8], count: u32, records: &mut [u32]) -> bool
     requires { ⌜ length (now records) ≡ roomWords ⌝ }
-    ensures { λ r. ⌜ keptOr r (now (records .exit)) ≡ keeping 0 (now (records .entry))
-        (columnsOn count (now (message .entry)) columnsAt) ⌝ }
+    ensures { λ r. ⌜ keptOr r (now (records .exit))
+        ≡ keeping 0 (now (records .entry)) (columnsOn count (now (message .entry)) columnsAt) ⌝ }
 {
     let mut at = COLUMNS_AT;
     let mut k: usize = 0;

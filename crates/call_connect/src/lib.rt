@@ -5,8 +5,9 @@ use table::Seat;
 
 // Connects a seat.
 pub fn connect(table: &mut [u32], catalogue: &[u8], seat: Seat, version: u32) -> u32
-    ensures { λ r. ⌜ Keeps (connectStep (sourcesOf (now (catalogue .entry))) (now (table .entry)) (seat .0) version) r
-        0 0 (now (table .exit)) [] [] ⌝ }
+    ensures { λ r. ⌜ Keeps
+        (connectStep (sourcesOf (now (catalogue .entry))) (now (table .entry)) (seat .0) version)
+        r 0 0 (now (table .exit)) [] [] ⌝ }
 {
     let k = seat.0;
     let mut places = [0u32; catalogue::ROWS_MOST];

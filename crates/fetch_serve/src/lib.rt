@@ -118,8 +118,8 @@ pub fn fetch(
     reply: &mut [u8],
 ) -> u32
     requires { ⌜ FetchReady (now cursor) (now catalogue) (now places) request (length (now reply)) ⌝ }
-    ensures { λ r. ⌜ Fetched (now (cursor .entry)) (now (catalogue .entry)) request r (now (cursor .exit))
-        (now (reply .entry)) (now (reply .exit)) ⌝ }
+    ensures { λ r. ⌜ Fetched (now (cursor .entry)) (now (catalogue .entry)) request r
+        (now (cursor .exit)) (now (reply .entry)) (now (reply .exit)) ⌝ }
 {
     let refusal = judge(cursor, request);
     if refusal != 0 {

@@ -7,6 +7,7 @@ ghost use Rattle.line.specs.CallReady.{CallReady};
 ghost use Rattle.call.specs.Step.{sourcesOf, messageStep, openStep};
 ghost use Rattle.file.specs.Served.{answerMost, opened, replied, answerTo, Serves, lentOf, lentBy, Lends};
 use line::Call;
+use message::Answered;
 
 // The catalogue that is lent from this line on. Answers its length.
 pub fn lend(call: Call, line: &[u8], catalogue: &mut [u8], lent: usize) -> usize
@@ -35,12 +36,19 @@ fn reply(
     used: usize,
 ) -> usize
     requires { ⌜ (length (now space) ≤ roomMost) × (used + answerMost ≤ length (now out)) ⌝ }
-    ensures { λ r. ⌜ Serves (replied (messageStep (sourcesOf (now (catalogue .entry))) (now (table .entry)) seat
-        (now (bytes .entry)) (length (now (space .entry))))) used r (now (table .exit)) (now (out .entry))
-        (now (out .exit)) ⌝ }
+    ensures { λ r. ⌜ Serves
+        (replied (messageStep (sourcesOf (now (catalogue .entry))) (now (table .entry)) seat
+        (now (bytes .entry)) (length (now (space .entry)))))
+        used r (now (table .exit)) (now (out .entry)) (now (out .exit)) ⌝ }
 {
     line_text::fill(space);
-    let answered = call_message::message(table, catalogue, table::Seat(seat), bytes, space);
+    let answered: Answered = call_message::message(
+        table,
+        catalogue,
+        table::Seat(seat),
+        bytes,
+        space,
+    );
     let refusal = answered.refusal;
     let count = answered.count;
     line_answer::put_message(out, used, refusal, space, count as usize)
@@ -57,8 +65,10 @@ fn message(
     used: usize,
 ) -> usize
     requires { ⌜ (room ≤ roomMost) × (length (now digits) / 2 ≤ bytesMost) × (used + answerMost ≤ length (now out)) ⌝ }
-    ensures { λ r. ⌜ Serves (replied (messageStep (sourcesOf (now (catalogue .entry))) (now (table .entry)) seat
-        (hexBytes (now (digits .entry))) room)) used r (now (table .exit)) (now (out .entry)) (now (out .exit)) ⌝ }
+    ensures { λ r. ⌜ Serves
+        (replied (messageStep (sourcesOf (now (catalogue .entry))) (now (table .entry)) seat
+        (hexBytes (now (digits .entry))) room))
+        used r (now (table .exit)) (now (out .entry)) (now (out .exit)) ⌝ }
 {
     let mut bytes = [0u8; 20000];
     let mut space = [0u8; 20000];
@@ -84,8 +94,9 @@ fn open(
     used: usize,
 ) -> usize
     requires { ⌜ (length (now digits) / 2 ≤ bytesMost) × (used + answerMost ≤ length (now out)) ⌝ }
-    ensures { λ r. ⌜ Serves (opened
-        (openStep (sourcesOf (now (catalogue .entry))) (now (table .entry)) seat (hexBytes (now (digits .entry)))))
+    ensures { λ r. ⌜ Serves
+        (opened (openStep (sourcesOf (now (catalogue .entry))) (now (table .entry)) seat
+        (hexBytes (now (digits .entry)))))
         used r (now (table .exit)) (now (out .entry)) (now (out .exit)) ⌝ }
 {
     let mut bytes = [0u8; 20000];
@@ -109,7 +120,8 @@ pub fn serve(
 ) -> usize
     requires { ⌜ CallReady (length (now line)) call × (indexMost < length (now table))
         × (used + answerMost ≤ length (now out)) ⌝ }
-    ensures { λ r. ⌜ Serves (answerTo call (now (line .entry)) number (now (table .entry)) (now (catalogue .entry)))
+    ensures { λ r. ⌜ Serves
+        (answerTo call (now (line .entry)) number (now (table .entry)) (now (catalogue .entry)))
         used r (now (table .exit)) (now (out .entry)) (now (out .exit)) ⌝ }
 {
     match call {

@@ -96,8 +96,8 @@ fn pair(high: u8, low: u8) -> u8
 // The bytes that pairs of hex digits spell.
 pub fn hex_bytes(digits: &[u8], out: &mut [u8])
     requires { ⌜ length (now digits) / 2 ≤ length (now out) ⌝ }
-    ensures { λ _. ⌜ now (out .exit) ≡ hexBytes (now (digits .entry)) ++ drop (length (now (digits .entry)) / 2)
-        (now (out .entry)) ⌝ }
+    ensures { λ _. ⌜ now (out .exit) ≡ hexBytes (now (digits .entry))
+        ++ drop (length (now (digits .entry)) / 2) (now (out .entry)) ⌝ }
 {
     let mut i = 0;
     while i < digits.len() / 2 {

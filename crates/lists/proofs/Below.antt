@@ -72,6 +72,10 @@ pub every-broken : (n : ℕ) (test : ℕ → Bool) (k : ℕ) → k < n → test 
 every-broken n test k h e = by-test (everyBelow n test) (λ q. absurd (true≢false (sym (every-at n test q k h) ∙ e))) (λ q. q)
 
 -- one number more: what a loop that goes on has
+pub every-more : (n : ℕ) (test : ℕ → Bool) → everyBelow (n + 1) test ≡ both (test n) (everyBelow n test)
+unfolding everyBelow
+every-more n test = rw add-one
+
 pub every-next : (n : ℕ) (test : ℕ → Bool) → test n ≡ true → everyBelow (n + 1) test ≡ everyBelow n test
 unfolding everyBelow
 every-next n test e = rw (add-one, e)

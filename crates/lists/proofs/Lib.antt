@@ -1,4 +1,5 @@
 pub mod Below
+pub mod Bits
 pub mod Options
 pub mod Says
 pub mod Every

@@ -1,9 +1,9 @@
 -- Setting bindings: the causes of its body, and what it leaves where none applies. Assumes nothing.
 use mathlib.Core.Path.{_≡_, refl, sym, ap, ap₂, _∙_}
-use mathlib.Core.Bool.{true, false}
+use mathlib.Core.Bool.{Bool, true, false}
 use mathlib.Core.List.{List, _++_}
 use mathlib.Core.Option.{Option, none, some}
-use Prim.Native.Nat.{ℕ, _-_}
+use Prim.Native.Nat.{ℕ, _-_, _<_}
 use native.Mathlib.Omega.{arith}
 use lib.Dec.{leb, eqb}
 use lib.ListN.{length, take, drop, set}
@@ -13,7 +13,7 @@ use Rattle.wire.specs.Word.{numberAt, le}
 use Rattle.lists.proofs.Below.{by-test, true≢false}
 use Rattle.lists.proofs.Options.{none≢some, some-is}
 use Rattle.catalogue.specs.Plain.{Row}
-use Rattle.bindings.specs.Column.{wordsOf}
+use Rattle.bindings.specs.Column.{columnsOf, wordsOf}
 use Rattle.bindings.specs.Fit.{fit}
 use Rattle.bindings.specs.declared.Column.{Column}
 use Rattle.bindings.specs.BindingsPlaces.{columnsOn, bindingsOn, widthAt, describedAt, countAt, columnsAt}
@@ -23,6 +23,8 @@ use Rattle.lists.specs.Options.{andThen}
 use Rattle.bindings.specs.BindingsTold.{answer, wordsRead, Told}
 use Rattle.bindings.specs.declared.BindingsRead.{BindingsRead}
 use Rattle.bindings.proofs.Agree.{bindings-agree}
+use Rattle.bindings.proofs.ReadJudged.{told-fit}
+use Rattle.refusal.proofs.First.{first-under}
 use Rattle.wire.specs.Laid.{lay, fourWords}
 use Rattle.table.specs.Layout.{cursorSize, cursorPlace}
 use Rattle.lists.specs.Parts.{part, put}
@@ -35,7 +37,7 @@ use Rattle.message.specs.Message.{handleOf, bodyCauses, boundTo, doneOn,
 use Rattle.message.specs.MessagePlaces.{reboundAt}
 use Rattle.table.specs.Open.{isOpen}
 use Rattle.message.specs.AnswerReady.{AdmittedReady}
-use Rattle.message.specs.AnswerTold.{Answers}
+use Rattle.message.specs.AnswerTold.{Answers, bindingsFound}
 use Rattle.message.proofs.Answering.{lay-front, seat-is, seat-fits, body-done}
 use Rattle.message.proofs.Bodies.{put-handle}
 
@@ -81,19 +83,68 @@ part-handle s handle c f g e =
         ∙ ap cursorWords (rw k at w))
         (λ k. absurd (none≢some (rw k at w)))
 
+-- what the reader of a body told
+told-none : (m : List ℕ) (r : BindingsRead) (exit : List ℕ) → Told m r exit → r .malformed ≡ true → bindings m ≡ none
+told-none m r exit t e = go (bindings m) refl
+  where
+    go : (o : Option Bindings) → bindings m ≡ o → bindings m ≡ none
+    go none p = p
+    go (some x) p = absurd (true≢false (sym e ∙ ap (λ (k : BindingsRead). k .malformed) (t .answered ∙ ap answer p)))
+
+pub record ReadAs (m : List ℕ) (r : BindingsRead) (exit : List ℕ) (x : Bindings) : Type 0 where
+  pub is : bindings m ≡ some x
+  pub handle : r .handle ≡ handleOf m
+  pub width : r .width ≡ x .width
+  pub count : r .count ≡ length (x .columns)
+  pub words : exit ≡ wordsOf (x .columns)
+
+told-some : (m : List ℕ) (r : BindingsRead) (exit : List ℕ) → Told m r exit → r .malformed ≡ false → (x : Bindings) × ReadAs m r exit x
+told-some m r exit t e = go (bindings m) refl
+  where
+    go : (o : Option Bindings) → bindings m ≡ o → (x : Bindings) × ReadAs m r exit x
+    go none p = absurd (true≢false (sym (ap (λ (k : BindingsRead). k .malformed) (t .answered ∙ ap answer p)) ∙ e))
+    go (some x) p =
+        let a = t .answered ∙ ap answer p in (
+          x,
+          record {
+            is = p;
+            handle = ap (λ (k : BindingsRead). k .handle) a ∙ handle-is m x p;
+            width = ap (λ (k : BindingsRead). k .width) a;
+            count = ap (λ (k : BindingsRead). k .count) a;
+            words = t .left ∙ ap wordsRead p;
+          },
+        )
+
+-- nothing is found where none of the three applies
+found-none : (malformed opens fits : Bool) → firstCause (bindingsFound malformed opens fits) ≡ 0 → (malformed ≡ false) × (opens ≡ true) × (fits ≡ true)
+unfolding firstCause
+found-none true opens fits e = absurd (omega (arith, e))
+found-none false false fits e = absurd (omega (arith, e))
+found-none false true false e = absurd (omega (arith, e))
+found-none false true true e = (refl, refl, refl)
+
+pub found-under : (malformed opens fits : Bool) → firstCause (bindingsFound malformed opens fits) < 17
+found-under malformed opens fits = first-under 17 (bindingsFound malformed opens fits) (omega arith) (omega arith, (omega arith, (omega arith, tt)))
+
+rebound-is : (b m records : List ℕ) (x : Bindings) (handle count width : ℕ) → handle ≡ handleOf m → records ≡ wordsOf (x .columns)
+    → count ≡ length (x .columns) → width ≡ x .width
+    → reboundAt b handle records count width ≡ reboundAt b (handleOf m) (wordsOf (x .columns)) (length (x .columns)) (x .width)
+rebound-is b m records x handle count width h r c w = cc
+
 module _ (b m reply : List ℕ) (msg : ℕ) (a : AdmittedReady b m reply msg 3) (rows : List Row) where
-  pub not-read : bindings m ≡ none → firstCause (bodyCauses rows 3 (seatIn b) m) ≡ 9
+  -- what was found is what the body's causes are
+  pub found-causes : (r : BindingsRead) (exit : List ℕ) → Told m r exit → (opens fits : Bool) → opens ≡ isOpen (cursorIn (seatIn b) (r .handle))
+      → fits ≡ fit (r .width) (columnsOf (r .count) exit)
+      → firstCause (bindingsFound (r .malformed) opens fits) ≡ firstCause (bodyCauses rows 3 (seatIn b) m)
   unfolding firstCause
-  not-read e = rw e
-
-  pub not-opened : (x : Bindings) → bindings m ≡ some x → isOpen (cursorIn (seatIn b) (handleOf m)) ≡ false → firstCause (bodyCauses rows 3 (seatIn b) m) ≡ 10
-  unfolding firstCause
-  not-opened x e o = rw (e, o)
-
-  pub not-fit : (x : Bindings) → bindings m ≡ some x → isOpen (cursorIn (seatIn b) (handleOf m)) ≡ true → fit (x .width) (x .columns) ≡ false
-      → firstCause (bodyCauses rows 3 (seatIn b) m) ≡ 12
-  unfolding firstCause
-  not-fit x e o f = rw (e, o, f)
+  found-causes r exit t opens fits o f =
+      by-test (r .malformed)
+      (λ q. rw (q, told-none m r exit t q))
+      (λ q.
+      let x = told-some m r exit t q in
+      let handle : opens ≡ isOpen (cursorIn (seatIn b) (handleOf m)) = o ∙ ap (λ (h : ℕ). isOpen (cursorIn (seatIn b) h)) (x .1 .handle) in
+      let columns : fits ≡ fit (x .0 .width) (x .0 .columns) = f ∙ told-fit m r exit (x .0) t (x .1 .is) in
+      rw (q, x .1 .is, handle, columns))
 
   bound-words : (x : Bindings) → bindings m ≡ some x → (c : Cursor) × (cursorIn (seatIn b) (handleOf m) ≡ some c)
       → reboundAt b (handleOf m) (wordsOf (x .columns)) (length (x .columns)) (x .width)
@@ -112,7 +163,7 @@ module _ (b m reply : List ℕ) (msg : ℕ) (a : AdmittedReady b m reply msg 3) 
       fits : CursorOk (seatIn b .first) × CursorOk (seatIn b .second)
       fits = seat-fits b m reply msg 3 a
 
-  pub bound-answers : (x : Bindings) → bindings m ≡ some x → isOpen (cursorIn (seatIn b) (handleOf m)) ≡ true → fit (x .width) (x .columns) ≡ true
+  bound-answers : (x : Bindings) → bindings m ≡ some x → isOpen (cursorIn (seatIn b) (handleOf m)) ≡ true → fit (x .width) (x .columns) ≡ true
       → (words exit : List ℕ) → words ≡ reboundAt b (handleOf m) (wordsOf (x .columns)) (length (x .columns)) (x .width)
       → exit ≡ lay reply 0 (fourWords msg 0 0 0)
       → Answers (seatMessage rows (seatOf b) m) (record { refusal = 0; count = 16 }) words reply exit
@@ -127,39 +178,18 @@ module _ (b m reply : List ℕ) (msg : ℕ) (a : AdmittedReady b m reply msg 3) 
         written = w ∙ lay-front reply (fourWords msg 0 0 0) ∙ ap (λ (k : ℕ). fourWords k 0 0 0 ++ drop 16 reply) (a .msg-is);
       }
 
--- what the reader of a body told
-pub told-none : (m : List ℕ) (r : BindingsRead) (exit : List ℕ) → Told m r exit → r .malformed ≡ true → bindings m ≡ none
-told-none m r exit t e = go (bindings m) refl
-  where
-    go : (o : Option Bindings) → bindings m ≡ o → bindings m ≡ none
-    go none p = p
-    go (some x) p = absurd (true≢false (sym e ∙ ap (λ (k : BindingsRead). k .malformed) (t .answered ∙ ap answer p)))
-
-pub record ReadAs (m : List ℕ) (r : BindingsRead) (exit : List ℕ) (x : Bindings) : Type 0 where
-  pub is : bindings m ≡ some x
-  pub handle : r .handle ≡ handleOf m
-  pub width : r .width ≡ x .width
-  pub count : r .count ≡ length (x .columns)
-  pub words : exit ≡ wordsOf (x .columns)
-
-pub told-some : (m : List ℕ) (r : BindingsRead) (exit : List ℕ) → Told m r exit → r .malformed ≡ false → (x : Bindings) × ReadAs m r exit x
-told-some m r exit t e = go (bindings m) refl
-  where
-    go : (o : Option Bindings) → bindings m ≡ o → (x : Bindings) × ReadAs m r exit x
-    go none p = absurd (true≢false (sym (ap (λ (k : BindingsRead). k .malformed) (t .answered ∙ ap answer p)) ∙ e))
-    go (some x) p =
-        let a = t .answered ∙ ap answer p in (
-          x,
-          record {
-            is = p;
-            handle = ap (λ (k : BindingsRead). k .handle) a ∙ handle-is m x p;
-            width = ap (λ (k : BindingsRead). k .width) a;
-            count = ap (λ (k : BindingsRead). k .count) a;
-            words = t .left ∙ ap wordsRead p;
-          },
-        )
-
-pub rebound-is : (b m records : List ℕ) (x : Bindings) (handle count width : ℕ) → handle ≡ handleOf m → records ≡ wordsOf (x .columns)
-    → count ≡ length (x .columns) → width ≡ x .width
-    → reboundAt b handle records count width ≡ reboundAt b (handleOf m) (wordsOf (x .columns)) (length (x .columns)) (x .width)
-rebound-is b m records x handle count width h r c w = cc
+  -- the same of what was found
+  pub found-answers : (r : BindingsRead) (records : List ℕ) → Told m r records → (opens fits : Bool) → opens ≡ isOpen (cursorIn (seatIn b) (r .handle))
+      → fits ≡ fit (r .width) (columnsOf (r .count) records) → firstCause (bindingsFound (r .malformed) opens fits) ≡ 0
+      → (words exit : List ℕ) → words ≡ reboundAt b (r .handle) records (r .count) (r .width)
+      → exit ≡ lay reply 0 (fourWords msg 0 0 0)
+      → Answers (seatMessage rows (seatOf b) m) (record { refusal = 0; count = 16 }) words reply exit
+  found-answers r records t opens fits o f z words exit p w =
+      let n = found-none (r .malformed) opens fits z in
+      let x = told-some m r records t (n .0) in
+      bound-answers (x .0) (x .1 .is) (ap (λ (h : ℕ). isOpen (cursorIn (seatIn b) h)) (sym (x .1 .handle)) ∙ sym o ∙ n .1)
+      (sym (told-fit m r records (x .0) t (x .1 .is)) ∙ sym f ∙ n .2)
+      words
+      exit
+      (p ∙ rebound-is b m records (x .0) (r .handle) (r .count) (r .width) (x .1 .handle) (x .1 .words) (x .1 .count) (x .1 .width))
+      w

@@ -1,6 +1,7 @@
 -- What a message's function answers and leaves.
 use mathlib.Core.Path.{_≡_}
-use mathlib.Core.List.{List, _++_}
+use mathlib.Core.Bool.{Bool, not}
+use mathlib.Core.List.{List, [], _∷_, _++_}
 use Prim.Native.Nat.{ℕ}
 use lib.ListN.{length, drop}
 use Rattle.catalogue.specs.Plain.{Row}
@@ -20,6 +21,10 @@ pub record Answers (o : SeatOutcome) (r : Answered) (words entry exit : List ℕ
 -- a message that sends no rows is answered so whatever rows the catalogue has
 abbrev pub AnswersAny : List ℕ → List ℕ → Answered → List ℕ → List ℕ → List ℕ → Type 0
 AnswersAny b m r words entry exit = (rows : List Row) → Answers (seatMessage rows (seatOf b) m) r words entry exit
+
+-- what was found of set bindings: its body is malformed, its handle is open, its columns fit
+abbrev pub bindingsFound : Bool → Bool → Bool → List (ℕ × Bool)
+bindingsFound malformed opens fits = (9, malformed) ∷ (10, not opens) ∷ (12, not fits) ∷ []
 
 -- a refusal from 6 on: "the reply is 16 bytes: _msg, the status, zero, zero"
 pub record Refuses (msg refusal : ℕ) (r : Answered) (entry exit : List ℕ) : Type 0 where

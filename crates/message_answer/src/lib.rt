@@ -5,9 +5,10 @@ ghost use Rattle.catalogue.specs.Plain.{rowsIn};
 ghost use Rattle.table.specs.Layout.{seatSize, recordsSize};
 ghost use Rattle.table.specs.Seat.{seatOf};
 ghost use Rattle.message.specs.Message.{seatMessage};
+ghost use Rattle.refusal.specs.Refusal.{firstCause};
 ghost use Rattle.message.specs.MessagePlaces.{reboundAt};
 ghost use Rattle.message.specs.AnswerReady.{MessageReady, AdmittedReady, SourcesReady};
-ghost use Rattle.message.specs.AnswerTold.{Answers, AnswersAny};
+ghost use Rattle.message.specs.AnswerTold.{Answers, AnswersAny, bindingsFound};
 use fetch::Asking;
 use message::Answered;
 
@@ -21,11 +22,27 @@ fn rebind(seat: &mut [u32], handle: u32, records: &[u32], count: u32, width: u32
     table_write::bind(&mut seat[at..end], records, count, width);
 }
 
+// Refusals 9, 10 and 12 of set bindings: what was found of its body, its handle and its columns, in order.
+fn first_of(malformed: bool, opens: bool, fits: bool) -> u32
+    ensures { λ r. ⌜ r ≡ firstCause (bindingsFound malformed opens fits) ⌝ }
+{
+    if malformed {
+        return 9;
+    }
+    if !opens {
+        return 10;
+    }
+    if !fits {
+        return 12;
+    }
+    0
+}
+
 // Set bindings: they replace the old, and the position stays.
 fn bind(seat: &mut [u32], message: &[u8], reply: &mut [u8], msg: u32) -> Answered
     requires { ⌜ AdmittedReady (now seat) (now message) (now reply) msg 3 ⌝ }
-    ensures { λ r. ⌜ AnswersAny (now (seat .entry)) (now (message .entry)) r (now (seat .exit)) (now (reply .entry))
-        (now (reply .exit)) ⌝ }
+    ensures { λ r. ⌜ AnswersAny (now (seat .entry)) (now (message .entry)) r
+        (now (seat .exit)) (now (reply .entry)) (now (reply .exit)) ⌝ }
 {
     let mut records = [0u32; bindings::ROOM_WORDS];
     let read = bindings_read::read(message, &mut records);
@@ -33,14 +50,11 @@ fn bind(seat: &mut [u32], message: &[u8], reply: &mut [u8], msg: u32) -> Answere
     let handle = read.handle;
     let count = read.count;
     let width = read.width;
-    if malformed {
-        return message_gate::refuse(reply, msg, 9);
-    }
-    if !table_handle::is_open(seat, handle) {
-        return message_gate::refuse(reply, msg, 10);
-    }
-    if !bindings_fit::fit(&records, count, width) {
-        return message_gate::refuse(reply, msg, 12);
+    let opens = table_handle::is_open(seat, handle);
+    let fits = bindings_fit::fit(&records, count, width);
+    let refusal = first_of(malformed, opens, fits);
+    if refusal != 0 {
+        return message_gate::refuse(reply, msg, refusal);
     }
     rebind(seat, handle, &records, count, width);
     wire_lay_word::lay_header(reply, msg, 0);
@@ -62,8 +76,8 @@ fn fetch(
     requires { ⌜ AdmittedReady (now seat) (now message) (now reply) msg 2
         × SourcesReady (now seat) (now catalogue) (now places) ⌝ }
     ensures { λ r. ⌜ Answers
-        (seatMessage (rowsIn (now (catalogue .entry))) (seatOf (now (seat .entry))) (now (message .entry))) r
-        (now (seat .exit)) (now (reply .entry)) (now (reply .exit)) ⌝ }
+        (seatMessage (rowsIn (now (catalogue .entry))) (seatOf (now (seat .entry))) (now (message .entry)))
+        r (now (seat .exit)) (now (reply .entry)) (now (reply .exit)) ⌝ }
 {
     let Asking::Asked(request) = fetch_request::read(message) else {
         return message_gate::refuse(reply, msg, 9);
@@ -75,9 +89,9 @@ fn fetch(
     }
     let at = table_handle::cursor_at(handle);
     let end = at + table::CURSOR_SIZE;
-    let refusal = fetch_serve::fetch(&mut seat[at..end], request, catalogue, places, reply);
-    if refusal != 0 {
-        return message_gate::refuse(reply, msg, refusal);
+    let refused = fetch_serve::fetch(&mut seat[at..end], request, catalogue, places, reply);
+    if refused != 0 {
+        return message_gate::refuse(reply, msg, refused);
     }
     Answered {
         refusal: 0,
@@ -95,8 +109,8 @@ pub fn answer(
 ) -> Answered
     requires { ⌜ MessageReady (now seat) (now message) (now reply) × SourcesReady (now seat) (now catalogue) (now places) ⌝ }
     ensures { λ r. ⌜ Answers
-        (seatMessage (rowsIn (now (catalogue .entry))) (seatOf (now (seat .entry))) (now (message .entry))) r
-        (now (seat .exit)) (now (reply .entry)) (now (reply .exit)) ⌝ }
+        (seatMessage (rowsIn (now (catalogue .entry))) (seatOf (now (seat .entry))) (now (message .entry)))
+        r (now (seat .exit)) (now (reply .entry)) (now (reply .exit)) ⌝ }
 {
     let msg = wire_word::word(message, 0);
     let kind = message_gate::kind(msg);

@@ -25,8 +25,8 @@ fn close(seat: &mut [u32], handle: u32)
 // Disconnect: both cursors are closed, and the seat is left unconnected.
 pub fn disconnect(seat: &mut [u32], message: &[u8], reply: &mut [u8], msg: u32) -> Answered
     requires { ⌜ AdmittedReady (now seat) (now message) (now reply) msg 0 ⌝ }
-    ensures { λ r. ⌜ AnswersAny (now (seat .entry)) (now (message .entry)) r (now (seat .exit)) (now (reply .entry))
-        (now (reply .exit)) ⌝ }
+    ensures { λ r. ⌜ AnswersAny (now (seat .entry)) (now (message .entry)) r
+        (now (seat .exit)) (now (reply .entry)) (now (reply .exit)) ⌝ }
 {
     if message.len() != wire::HEADER_SIZE {
         return message_gate::refuse(reply, msg, 9);
@@ -41,8 +41,8 @@ pub fn disconnect(seat: &mut [u32], message: &[u8], reply: &mut [u8], msg: u32) 
 // Free cursor: the reply counts the cursors still open.
 pub fn free(seat: &mut [u32], message: &[u8], reply: &mut [u8], msg: u32) -> Answered
     requires { ⌜ AdmittedReady (now seat) (now message) (now reply) msg 1 ⌝ }
-    ensures { λ r. ⌜ AnswersAny (now (seat .entry)) (now (message .entry)) r (now (seat .exit)) (now (reply .entry))
-        (now (reply .exit)) ⌝ }
+    ensures { λ r. ⌜ AnswersAny (now (seat .entry)) (now (message .entry)) r
+        (now (seat .exit)) (now (reply .entry)) (now (reply .exit)) ⌝ }
 {
     if message.len() != FREE_SIZE {
         return message_gate::refuse(reply, msg, 9);

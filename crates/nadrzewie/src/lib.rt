@@ -56,8 +56,8 @@ pub extern "C" fn nadrzewie_connect(
     version: u32,
 ) -> u32
     ensures { λ r. ⌜ Keeps
-        (connectStep (sourcesOf (now (catalogue .entry))) (now (table .entry)) (seat .number) version) r 0 0
-        (now (table .exit)) [] [] ⌝ }
+        (connectStep (sourcesOf (now (catalogue .entry))) (now (table .entry)) (seat .number) version)
+        r 0 0 (now (table .exit)) [] [] ⌝ }
 {
     call_connect::connect(table, catalogue, table::Seat(seat.number), version)
 }
@@ -92,11 +92,12 @@ pub extern "C" fn nadrzewie_message(
     message: &[u8],
     reply: &mut [u8],
 ) -> Answered
-    ensures { λ r. ⌜ Keeps (messageStep (sourcesOf (now (catalogue .entry))) (now (table .entry)) (seat .number)
-        (now (message .entry)) (length (now (reply .entry)))) (r .refusal) 0 (r .count) (now (table .exit))
-        (now (reply .entry)) (now (reply .exit)) ⌝ }
+    ensures { λ r. ⌜ Keeps
+        (messageStep (sourcesOf (now (catalogue .entry))) (now (table .entry)) (seat .number)
+        (now (message .entry)) (length (now (reply .entry))))
+        (r .refusal) 0 (r .count) (now (table .exit)) (now (reply .entry)) (now (reply .exit)) ⌝ }
 {
-    let answered = call_message::message(
+    let answered: message::Answered = call_message::message(
         table,
         catalogue,
         table::Seat(seat.number),

@@ -60,8 +60,9 @@ fn lay_variant(reply: &mut [u8], at: usize, kind: u64, number: u64)
 // A column's cell, where its value is used.
 fn lay_value(reply: &mut [u8], column: Column, row: usize, kind: u64, number: u64)
     requires { ⌜ SpansReady (length (now reply)) row column ⌝ }
-    ensures { λ _. ⌜ now (reply .exit) ≡ lays (now (reply .entry)) (laidIf (column .value .used)
-        (row + column .value .offset) (cellBytes (column .property) (column .vtype) kind number)) ⌝ }
+    ensures { λ _. ⌜ now (reply .exit) ≡ lays (now (reply .entry))
+        (laidIf (column .value .used) (row + column .value .offset)
+        (cellBytes (column .property) (column .vtype) kind number)) ⌝ }
 {
     if column.value.used != 1 {
         return;
@@ -111,8 +112,8 @@ pub fn lay_column(
     top: usize,
 ) -> usize
     requires { ⌜ ColumnReady (length (now reply)) (now catalogue) fields column base row top ⌝ }
-    ensures { λ r. ⌜ ColumnLaid base row top column (rowOf (now (catalogue .entry)) fields) r (now (reply .entry))
-        (now (reply .exit)) ⌝ }
+    ensures { λ r. ⌜ ColumnLaid base row top column (rowOf (now (catalogue .entry)) fields) r
+        (now (reply .entry)) (now (reply .exit)) ⌝ }
 {
     let found = page_field::field(fields, column.property);
     let place = top - page_field::room_of(column.value.used, found);

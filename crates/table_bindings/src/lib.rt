@@ -11,15 +11,13 @@ ghost use Rattle.table.specs.Well.{allZero, flagged, tidy, boundWell, bindingsW
 pub fn all_zero(words: &[u32]) -> bool
     ensures { λ r. ⌜ r ≡ allZero (now (words .entry)) ⌝ }
 {
-    let mut clear = true;
+    let mut joined: u32 = 0;
     let mut i = 0;
     while i < words.len() {
-        if words[i] != 0 {
-            clear = false;
-        }
+        joined = joined | words[i];
         i += 1;
     }
-    clear
+    joined == 0
 }
 
 fn wide(word: u32) -> u64

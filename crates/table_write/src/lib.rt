@@ -57,8 +57,8 @@ fn copy(from: &[u32], into: &mut [u32])
 // Sets a cursor's bindings.
 pub fn bind(cursor: &mut [u32], records: &[u32], count: u32, width: u32)
     requires { ⌜ (length (now cursor) ≡ cursorSize) × (length (now records) ≡ recordsSize) ⌝ }
-    ensures { λ _. ⌜ now (cursor .exit) ≡ put (set (set (now (cursor .entry)) columnsAt count) widthAt width)
-        recordsAt recordsSize (now (records .entry)) ⌝ }
+    ensures { λ _. ⌜ now (cursor .exit)
+        ≡ put (set (set (now (cursor .entry)) columnsAt count) widthAt width) recordsAt recordsSize (now (records .entry)) ⌝ }
 {
     cursor[table::COLUMNS] = count;
     cursor[table::WIDTH] = width;

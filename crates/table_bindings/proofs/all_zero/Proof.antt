@@ -1,30 +1,29 @@
--- `table_bindings::all_zero` meets its contract. The loop's invariant: the flag says that each of the first i words is zero. Assumes nothing.
+-- `table_bindings::all_zero` meets its contract. The loop's invariant: what is joined is zero where each of the first i words is. Assumes nothing.
 use Rattle.table_bindings.proofs.all_zero.Statement.{statement}
 use Rattle.table_bindings.proofs.all_zero.Tie as tie
 use borrow.Author.Needs.{needs}
 use mathlib.Core.Path.{_≡_, sym, _∙_, ap}
-use mathlib.Core.Logic.{⊎-elim}
 use Prim.Native.Nat.{_≤_, _-_, ℕ}
 use lib.Dec.{eqb}
 use lib.ListN.{length, getD}
-use borrow.Author.Tests.{eq-eqb, ne-eqb}
-use Rattle.lists.specs.Below.{everyBelow}
-use Rattle.lists.proofs.Below.{every-next, every-next-not, every-start}
+use Rattle.lists.specs.Below.{both, everyBelow}
+use Rattle.lists.proofs.Below.{every-more, every-start}
+use Rattle.lists.proofs.Bits.{or-zero}
 
 abbrev Inv-loop : tie.InvT-loop
-Inv-loop words clear₀ i₀ clear i = (i ≤ length words) × (clear ≡ everyBelow i (λ k. eqb (getD words k 0) 0))
+Inv-loop words joined₀ i₀ joined i = (i ≤ length words) × (eqb joined 0 ≡ everyBelow i (λ k. eqb (getD words k 0) 0))
 
 abbrev μ-loop : tie.MeasureT-loop
-μ-loop words clear₀ i₀ clear i = length words - i
+μ-loop words joined₀ i₀ joined i = length words - i
 
 loop-holds : tie.Need-loop-holds Inv-loop μ-loop
 loop-holds c = (search needs, sym (every-start _))
 
-mul-if1 : tie.Need-mul-if1 Inv-loop μ-loop
-mul-if1 c = search needs
+mul-joined : tie.Need-mul-joined Inv-loop μ-loop
+mul-joined c = search needs
 
-shared-slice-read-if1 : tie.Need-shared-slice-read-if1 Inv-loop μ-loop
-shared-slice-read-if1 c = search needs
+shared-slice-read-joined : tie.Need-shared-slice-read-joined Inv-loop μ-loop
+shared-slice-read-joined c = search needs
 
 add-i : tie.Need-add-i Inv-loop μ-loop
 add-i c = search needs
@@ -34,13 +33,9 @@ loop-less c = search needs
 
 loop-again : tie.Need-loop-again Inv-loop μ-loop
 loop-again c =
-    let l = c .before .before .before .loop in (
-      search needs,
-      ⊎-elim
-          (λ w. w .1 ∙ sym (every-next-not (l .i) _ (ne-eqb _ 0 (w .0 .taken))))
-          (λ w. w .1 ∙ l .inv .1 ∙ sym (every-next (l .i) _ (eq-eqb _ 0 (w .0 .left))))
-          (c .if1 .came),
-    )
+    let l = c .before .before .loop in
+    let word = getD (c .before .before .before .args .words .now) (l .i) 0 in
+    (search needs, or-zero (l .joined) word ∙ ap (both (eqb word 0)) (l .inv .1) ∙ sym (every-more (l .i) _))
 
 returns : tie.Need-returns Inv-loop μ-loop
 returns c =
@@ -56,8 +51,8 @@ all-zero-spec =
     Inv-loop
     μ-loop
     loop-holds
-    mul-if1
-    shared-slice-read-if1
+    mul-joined
+    shared-slice-read-joined
     add-i
     loop-less
     loop-again
