@@ -73,7 +73,8 @@ pub fn page(
     wire_lay::clear_first(reply, sheet.size);
     let sent = lay_rows(reply, catalogue, places, numbers, records, sheet);
     wire_lay_word::lay_four(reply, wire::HEADER_SIZE, sent as u32, 1, 0, 0);
-    let status = status_for(numbers.len() - sent);
+    let left = numbers.len() - sent;
+    let status = status_for(left);
     wire_lay_word::lay_header(reply, wire::GET_ROWS, status);
     sent
 }

@@ -44,8 +44,8 @@ cast-lay-four c =
 lay-four-requires : tie.Need-lay-four-requires
 lay-four-requires c κs = search needs
 
-sub-status-for : tie.Need-sub-status-for
-sub-status-for c =
+sub-left : tie.Need-sub-left
+sub-left c =
     let laid = c .before .before .before .before .before .before .lay-rows in
     let entry = c .before .before .before .before .before .before .before .before .before .before .before .before .before .before .before .before .before in
     let a = entry .args in
@@ -89,7 +89,7 @@ page-spec =
     lay-rows-requires
     cast-lay-four
     lay-four-requires
-    sub-status-for
+    sub-left
     status-for-requires
     lay-header-requires
     same-length
