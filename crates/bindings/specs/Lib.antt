@@ -1,9 +1,9 @@
 pub mod Column
 pub mod Fit
-pub mod SpanPlaces
 pub mod Sound
+pub mod Plain
+pub mod Examples
+pub mod SpanPlaces
 pub mod ColumnPlaces
 pub mod BindingsPlaces
-pub mod Plain
 pub mod BindingsTold
-pub mod Examples

@@ -1,3 +1,3 @@
 pub mod Step
-pub mod JudgementTold
 pub mod Passing
+pub mod JudgementTold

@@ -1,9 +1,9 @@
 pub mod Groups
-pub mod NumberPlaces
 pub mod Limits
 pub mod Plain
 pub mod Writer
-pub mod CatalogueReady
-pub mod CataloguePlaces
-pub mod CheckTold
 pub mod Examples
+pub mod NumberPlaces
+pub mod CataloguePlaces
+pub mod CatalogueReady
+pub mod CheckTold

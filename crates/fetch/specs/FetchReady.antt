@@ -1,4 +1,4 @@
--- What is known before rows are fetched, and what is left afterwards.
+-- What is known before rows are fetched.
 use mathlib.Core.Path.{_≡_}
 use mathlib.Core.Bool.{true}
 use mathlib.Core.List.{List}

@@ -1,5 +1,5 @@
 pub mod Request
 pub mod Asking
 pub mod Fetch
-pub mod FetchTold
 pub mod FetchReady
+pub mod FetchTold

@@ -1,2 +1,2 @@
-pub mod FileReady
 pub mod Served
+pub mod FileReady

@@ -1,9 +1,9 @@
 pub mod Runs
 pub mod Text
 pub mod Digits
-pub mod DigitsTold
-pub mod CallReady
 pub mod Line
 pub mod Answer
 pub mod Kept
+pub mod CallReady
 pub mod PlaceReady
+pub mod DigitsTold

@@ -1,5 +1,6 @@
-// The lines of a file of recorded calls: words, numerals, the call that a line is, and the line that answers it. Definitions
-// and laws, no code.
+// A line of a file of recorded calls: its words and numerals, the call that it is, and the line that answers it (01,
+// "What the base serves": the small program; README, "Replaying recorded calls"). Definitions, laws, types and
+// constants; no function.
 
 pub enum Spelled {
     Is(u32),

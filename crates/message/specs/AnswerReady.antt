@@ -1,4 +1,4 @@
--- What a message's function is given of its seat, and what it answers and leaves.
+-- What a message's function is given of its seat.
 use mathlib.Core.Path.{_≡_}
 use mathlib.Core.Bool.{true}
 use mathlib.Core.List.{List}

@@ -1,4 +1,4 @@
-pub mod MessagePlaces
 pub mod Message
-pub mod AnswerTold
+pub mod MessagePlaces
 pub mod AnswerReady
+pub mod AnswerTold

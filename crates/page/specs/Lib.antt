@@ -1,12 +1,12 @@
-pub mod FieldPlaces
 pub mod Field
 pub mod Cell
-pub mod FieldReady
-pub mod RowPlaces
 pub mod Rows
-pub mod RowReady
 pub mod Page
-pub mod PageReady
 pub mod Reads
 pub mod Examples
+pub mod FieldPlaces
+pub mod RowPlaces
+pub mod FieldReady
+pub mod RowReady
+pub mod PageReady
 pub mod PageTold

@@ -1,5 +1,5 @@
-// The page of a rows reply: what a column of a row has to send, how many rows fit, and the bytes of the whole (01, "Rows").
-// Definitions, laws, types and constants; no function.
+// The page of a rows reply: what a column of a row has to send, how many rows fit, and the bytes of the whole (01,
+// "Rows", from "The reply is B bytes" on). Definitions, laws, types and constants; no function.
 use catalogue::Text;
 
 // What a row has for a property.

@@ -1,1 +1,2 @@
-// The refusals: their numbers, their order and their statuses. Definitions and laws, no code.
+// The refusals: the order in which causes are tested, and the status of each number (01, "Refusal numbers, in order
+// of test"). Definitions and laws; no function.

@@ -1,5 +1,6 @@
-// The session table: the places of its words, what a seat and a cursor are, and when a table is well formed (01, "What the base
-// serves", and under the refusal table, refusals 2 and 3). Definitions, laws, types and constants; no function.
+// The session table: the places of its words, what a seat and a cursor are, and when a table is well formed (01,
+// "What the base serves", and under the refusal table, refusals 2 and 3). Definitions, laws, types and constants; no
+// function.
 
 // The seats, and the words of the table, of a seat and of a cursor (docs/TABLE.md).
 pub const SEATS: usize = 8;

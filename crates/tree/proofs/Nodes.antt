@@ -29,8 +29,8 @@ use Rattle.tree.specs.Kinds.{isBranch}
 use Rattle.tree.proofs.TreeFacts.{held}
 use Rattle.tree.proofs.TreeLaws.{no-levels, no-nodes, no-head, node-branch, node-not, node-leaf}
 use Rattle.tree.specs.VerdictTold.{told, turned, withChild}
-use Rattle.tree.specs.HoldTold.{leafTold}
-use Rattle.tree.specs.HoldReady.{LeafReady, Found, Tells}
+use Rattle.tree.specs.HoldTold.{leafTold, Tells}
+use Rattle.tree.specs.HoldReady.{LeafReady, Found}
 use Rattle.tree.proofs.Leaves.{word-from, left-past}
 
 -- an answer in one number

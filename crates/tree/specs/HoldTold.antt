@@ -1,7 +1,9 @@
--- What the code says of a leaf: what the words at its place say.
+-- What the code says of a leaf, of a node and of a list of nodes: of a leaf, what the words at its place say.
 -- proofs/Leaves.antt shows that these are the words of the leaf that is read there.
+use mathlib.Core.Path.{_≡_}
 use mathlib.Core.Bool.{Bool}
 use mathlib.Core.List.{List}
+use mathlib.Core.Option.{some}
 use Prim.Native.Nat.{ℕ, _+_}
 use lib.ListN.{drop}
 use Rattle.catalogue.specs.Plain.{Row}
@@ -14,6 +16,8 @@ use Rattle.tree.specs.declared.Relation.{Relation}
 use Rattle.tree.specs.LeafHolds.{relationHolds, phraseHolds, leafHolds}
 use Rattle.tree.specs.Parts.{leafAt, withLeaf, phraseOf, leafOf}
 use Rattle.tree.specs.LeafPlaces.{relationIn, localeAt, contentIn}
+use Rattle.tree.specs.TreeHolds.{holds}
+use Rattle.tree.specs.Reader.{TreeRead, Read, branchRead, readTree}
 
 -- a property leaf: its relation, its property and its value
 abbrev pub relationSays : Relation → Fields → Bool
@@ -32,3 +36,15 @@ contentTold s at held f = told (contentSays (drop at s) (contentIn (drop at s) a
 -- the leaf that is read at a place
 abbrev pub leafTold : ℕ → List ℕ → ℕ → Row → ℕ
 leafTold kind s at row = withLeaf (leafAt kind (drop at s) at) 0 λ parts used. told (leafHolds row (leafOf (drop at s) parts)) (at + used)
+
+-- the answer for a row is that of whatever node the reader finds there
+abbrev pub Tells : Read → List ℕ → ℕ → Row → ℕ → Type 0
+Tells read s at row answer =
+    (nodes : ℕ) (r : TreeRead) → read nodes at (drop at s) ≡ some r → answer ≡ told (holds (r .tree) row) (at + r .used)
+
+-- of a node of so many levels at most, and of an and or an or over nodes of so many levels
+abbrev pub NodeTold : List ℕ → ℕ → ℕ → Row → ℕ → Type 0
+NodeTold s at levels row answer = Tells (readTree levels) s at row answer
+
+abbrev pub ListTold : ℕ → List ℕ → ℕ → ℕ → Row → ℕ → Type 0
+ListTold kind s at levels row answer = Tells (branchRead (readTree levels) kind) s at row answer

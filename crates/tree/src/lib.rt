@@ -1,5 +1,5 @@
-// Restriction trees: phrases, leaves, the tree, what it says of a row, and the rows that it selects (01, "Restriction trees").
-// Definitions, laws, types and constants; no function.
+// Restriction trees: phrases, leaves, the tree, what it says of a row, and the rows that it selects (01, "Restriction
+// trees"). Definitions, laws, types and constants; no function.
 
 // The limits of a tree, and of a phrase.
 pub const BYTES_MOST: usize = 4096;

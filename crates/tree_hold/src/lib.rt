@@ -9,8 +9,8 @@ ghost use Rattle.catalogue.specs.CatalogueReady.{FieldsReady};
 ghost use Rattle.tree.specs.TreeHolds.{heldBy};
 ghost use Rattle.tree.specs.Reader.{restriction, isTree};
 ghost use Rattle.tree.specs.LeafPlaces.{localeAt};
-ghost use Rattle.tree.specs.HoldTold.{relationTold, contentTold, leafTold};
-ghost use Rattle.tree.specs.HoldReady.{LeafReady, NodeReady, NodeTold, ListReady, ListTold};
+ghost use Rattle.tree.specs.HoldTold.{relationTold, contentTold, leafTold, NodeTold, ListTold};
+ghost use Rattle.tree.specs.HoldReady.{LeafReady, NodeReady, ListReady};
 use catalogue::Fields;
 
 // Where the number of a leaf's property stands.

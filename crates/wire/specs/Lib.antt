@@ -4,6 +4,6 @@ pub mod Checksum
 pub mod Padding
 pub mod Property
 pub mod PropertySpec
-pub mod FieldPlaces
 pub mod Laid
 pub mod Examples
+pub mod FieldPlaces
