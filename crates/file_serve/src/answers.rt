@@ -70,8 +70,8 @@ fn message(
         (hexBytes (now (digits .entry))) room))
         used r (now (table .exit)) (now (out .entry)) (now (out .exit)) ⌝ }
 {
-    let mut bytes = [0u8; 20000];
-    let mut space = [0u8; 20000];
+    let mut bytes = [0u8; line::BYTES_MOST];
+    let mut space = [0u8; line::ROOM_MOST as usize];
     let size = line_answer::load(digits, &mut bytes);
     reply(
         table,
@@ -99,7 +99,7 @@ fn open(
         (hexBytes (now (digits .entry)))))
         used r (now (table .exit)) (now (out .entry)) (now (out .exit)) ⌝ }
 {
-    let mut bytes = [0u8; 20000];
+    let mut bytes = [0u8; line::BYTES_MOST];
     let size = line_answer::load(digits, &mut bytes);
     let opened = call_open::open(table, catalogue, table::Seat(seat), &bytes[0..size]);
     let refusal = opened.refusal;

@@ -112,8 +112,8 @@ fn serve_file(
 
 // Serves the recorded calls of an open file, and writes the answers to standard output.
 pub fn replay(fd: i32, path: &[u8]) {
-    let mut table = [0u32; 17200];
-    let mut catalogue = [0u8; 32768];
+    let mut table = [0u32; table::TABLE_SIZE];
+    let mut catalogue = [0u8; line::CATALOGUE_MOST];
     let mut line = [0u8; 131072];
     let mut out = [0u8; 131072];
     let mut chunk = [0u8; 65536];

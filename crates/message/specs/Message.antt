@@ -30,6 +30,19 @@ messageTable = disconnectMsg ∷ 0 ∷ freeCursorMsg ∷ 0 ∷ getRowsMsg ∷ 1 
 abbrev pub kinds : ℕ
 kinds = 4
 
+-- the four kinds by name
+abbrev pub disconnects : ℕ
+disconnects = 0
+
+abbrev pub frees : ℕ
+frees = 1
+
+abbrev pub fetches : ℕ
+fetches = 2
+
+abbrev pub binds : ℕ
+binds = 3
+
 -- the kind of a message is its place among those; one that is not served has the count of kinds
 unfoldable pub kindFrom : ℕ → ℕ → ℕ → ℕ
 kindFrom zero k msg = k
@@ -82,9 +95,9 @@ rowsCauses rows (some c) (some q) = fetchCauses rows c q
 -- 9 and after it, by kind: "Disconnect (empty body)", "Free cursor has a body of exactly 4 bytes", get rows, set bindings
 abbrev pub bodyCauses : List Row → ℕ → Seat → List ℕ → List (ℕ × Bool)
 bodyCauses rows kind s m =
-    pick (eqb kind 0) ((9, not (eqb (length m) headerSize)) ∷ [])
-    (pick (eqb kind 1) ((9, not (eqb (length m) (headerSize + 4))) ∷ notOpen s m ∷ [])
-    (pick (eqb kind 2) ((9, unasked (request m)) ∷ notOpen s m ∷ rowsCauses rows (cursorIn s (handleOf m)) (request m))
+    pick (eqb kind disconnects) ((9, not (eqb (length m) headerSize)) ∷ [])
+    (pick (eqb kind frees) ((9, not (eqb (length m) (headerSize + 4))) ∷ notOpen s m ∷ [])
+    (pick (eqb kind fetches) ((9, unasked (request m)) ∷ notOpen s m ∷ rowsCauses rows (cursorIn s (handleOf m)) (request m))
     ((9, unread (bindings m)) ∷ notOpen s m ∷ (12, unfit (bindings m)) ∷ [])))
 
 -- 6 "message number not served", 7 "anything else on an unconnected one", 8 "checksum tested and wrong"
@@ -133,10 +146,10 @@ rowsDone rows s handle (some c) none = record { refusal = 0; reply = []; after =
 -- bytes: _msg, zero, zero, zero"
 abbrev pub doneOn : List Row → ℕ → Seat → List ℕ → SeatOutcome
 doneOn rows kind s m =
-    pick (eqb kind 0) (record { refusal = 0; reply = []; after = none })
-    (pick (eqb kind 1)
+    pick (eqb kind disconnects) (record { refusal = 0; reply = []; after = none })
+    (pick (eqb kind frees)
     (record { refusal = 0; reply = fourWords (msgOf m) 0 0 0 ++ le 4 (stillOpen (freed s m)); after = some (freed s m) })
-    (pick (eqb kind 2)
+    (pick (eqb kind fetches)
     (rowsDone rows s (handleOf m) (cursorIn s (handleOf m)) (request m))
     (record {
       refusal = 0;

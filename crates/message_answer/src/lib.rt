@@ -4,7 +4,7 @@ ghost use lib.ListN.{length};
 ghost use Rattle.catalogue.specs.Plain.{rowsIn};
 ghost use Rattle.table.specs.Layout.{seatSize, recordsSize};
 ghost use Rattle.table.specs.Seat.{seatOf};
-ghost use Rattle.message.specs.Message.{seatMessage};
+ghost use Rattle.message.specs.Message.{fetches, binds, seatMessage};
 ghost use Rattle.refusal.specs.Refusal.{firstCause};
 ghost use Rattle.message.specs.MessagePlaces.{reboundAt};
 ghost use Rattle.message.specs.AnswerReady.{MessageReady, AdmittedReady, SourcesReady};
@@ -40,7 +40,7 @@ fn first_of(malformed: bool, opens: bool, fits: bool) -> u32
 
 // Set bindings: they replace the old, and the position stays.
 fn bind(seat: &mut [u32], message: &[u8], reply: &mut [u8], msg: u32) -> Answered
-    requires { ⌜ AdmittedReady (now seat) (now message) (now reply) msg 3 ⌝ }
+    requires { ⌜ AdmittedReady (now seat) (now message) (now reply) msg binds ⌝ }
     ensures { λ r. ⌜ AnswersAny (now (seat .entry)) (now (message .entry)) r
         (now (seat .exit)) (now (reply .entry)) (now (reply .exit)) ⌝ }
 {
@@ -73,7 +73,7 @@ fn fetch(
     reply: &mut [u8],
     msg: u32,
 ) -> Answered
-    requires { ⌜ AdmittedReady (now seat) (now message) (now reply) msg 2
+    requires { ⌜ AdmittedReady (now seat) (now message) (now reply) msg fetches
         × SourcesReady (now seat) (now catalogue) (now places) ⌝ }
     ensures { λ r. ⌜ Answers
         (seatMessage (rowsIn (now (catalogue .entry))) (seatOf (now (seat .entry))) (now (message .entry)))

@@ -5,6 +5,7 @@ ghost use lib.ListN.{length};
 ghost use Rattle.table.specs.Layout.{seatSize, cursorSize, cursorPlace};
 ghost use Rattle.lists.specs.Parts.{put};
 ghost use Rattle.table.specs.Seat.{cursorWords};
+ghost use Rattle.message.specs.Message.{disconnects, frees};
 ghost use Rattle.message.specs.AnswerReady.{AdmittedReady};
 ghost use Rattle.message.specs.AnswerTold.{AnswersAny};
 use message::Answered;
@@ -24,7 +25,7 @@ fn close(seat: &mut [u32], handle: u32)
 
 // Disconnect: both cursors are closed, and the seat is left unconnected.
 pub fn disconnect(seat: &mut [u32], message: &[u8], reply: &mut [u8], msg: u32) -> Answered
-    requires { ⌜ AdmittedReady (now seat) (now message) (now reply) msg 0 ⌝ }
+    requires { ⌜ AdmittedReady (now seat) (now message) (now reply) msg disconnects ⌝ }
     ensures { λ r. ⌜ AnswersAny (now (seat .entry)) (now (message .entry)) r
         (now (seat .exit)) (now (reply .entry)) (now (reply .exit)) ⌝ }
 {
@@ -40,7 +41,7 @@ pub fn disconnect(seat: &mut [u32], message: &[u8], reply: &mut [u8], msg: u32) 
 
 // Free cursor: the reply counts the cursors still open.
 pub fn free(seat: &mut [u32], message: &[u8], reply: &mut [u8], msg: u32) -> Answered
-    requires { ⌜ AdmittedReady (now seat) (now message) (now reply) msg 1 ⌝ }
+    requires { ⌜ AdmittedReady (now seat) (now message) (now reply) msg frees ⌝ }
     ensures { λ r. ⌜ AnswersAny (now (seat .entry)) (now (message .entry)) r
         (now (seat .exit)) (now (reply .entry)) (now (reply .exit)) ⌝ }
 {
