@@ -1,4 +1,5 @@
--- The body of CPMSetBindingsIn by places, which the code follows (01, "Bindings": "_hCursor, _cbRow, _cbBindingDesc, _dummy, cColumns, columns").
+-- The body of CPMSetBindingsIn by places, which the code follows (01, "Bindings": "_hCursor, _cbRow, _cbBindingDesc, _dummy, cColumns,
+-- columns").
 use mathlib.Core.Bool.{Bool, true, false}
 use mathlib.Core.List.{List, []}
 use mathlib.Core.Option.{Option, none, some}

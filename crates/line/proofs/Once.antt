@@ -1,9 +1,10 @@
--- What is kept of a part of a line is one outcome: the contract allows no two. Assumes nothing.
+-- What is kept of a part of a line, and what is loaded of it, is one outcome: the contracts allow no two. Assumes nothing.
 use mathlib.Core.Path.{_≡_, sym, _∙_}
 use mathlib.Core.List.{List}
 use Prim.Native.Nat.{ℕ}
 use Rattle.line.specs.declared.Place.{Place}
 use Rattle.line.specs.Kept.{Kept}
+use Rattle.line.specs.DigitsTold.{Loaded}
 
 pub record Same (r r′ : Place) (exit exit′ : List ℕ) : Type 0 where
   pub bytes : exit ≡ exit′
@@ -13,7 +14,8 @@ pub record Same (r r′ : Place) (exit exit′ : List ℕ) : Type 0 where
   pub catalogue : r .catalogue ≡ r′ .catalogue
   pub used : r .used ≡ r′ .used
 
-pub kept-once : (line : List ℕ) (p : Place) (part : List ℕ) (r r′ : Place) (exit exit′ : List ℕ) → Kept line p part r exit → Kept line p part r′ exit′ → Same r r′ exit exit′
+pub kept-once : (line : List ℕ) (p : Place) (part : List ℕ) (r r′ : Place) (exit exit′ : List ℕ) → Kept line p part r exit
+    → Kept line p part r′ exit′ → Same r r′ exit exit′
 kept-once line p part r r′ exit exit′ a b = record {
   bytes = a .bytes ∙ sym (b .bytes);
   kept = a .kept ∙ sym (b .kept);
@@ -22,3 +24,7 @@ kept-once line p part r r′ exit exit′ a b = record {
   catalogue = a .catalogue ∙ sym (b .catalogue);
   used = a .used ∙ sym (b .used);
 }
+
+pub loaded-once : (digits : List ℕ) (r r′ : ℕ) (entry exit exit′ : List ℕ) → Loaded digits r entry exit → Loaded digits r′ entry exit′
+    → (r ≡ r′) × (exit ≡ exit′)
+loaded-once digits r r′ entry exit exit′ a b = (a .counted ∙ sym (b .counted), a .laid ∙ sym (b .laid))

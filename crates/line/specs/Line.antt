@@ -1,5 +1,6 @@
--- The call that a line of a calls file is, its comment cut off, or why it is none (README, "Replaying recorded calls"). Words are judged from left to right, each fully before the next:
--- that it is there, its form, its limit; and after the last, that no further word is there.
+-- The call that a line of a calls file is, its comment cut off, or why it is none (README, "Replaying recorded calls"). Words are
+-- judged from left to right, each fully before the next: that it is there, its form, its limit; and after the last, that no further word
+-- is there.
 use mathlib.Core.List.{List, [], _∷_}
 use mathlib.Core.Option.{Option, none, some}
 use Prim.Native.Nat.{ℕ, _-_, _/_}

@@ -1,9 +1,9 @@
--- Any two outcomes that the statement of `answer` allows agree. Assumes nothing.
+-- Any two outcomes that a statement of a message's function allows agree. Assumes nothing.
 use mathlib.Core.Path.{_≡_, sym, _∙_}
 use mathlib.Core.List.{List}
 use Prim.Native.Nat.{ℕ}
 use Rattle.message.specs.Message.{SeatOutcome}
-use Rattle.message.specs.AnswerTold.{Answers}
+use Rattle.message.specs.AnswerTold.{Answers, Refuses}
 use Rattle.message.specs.declared.Answered.{Answered}
 
 -- the same answer, the same words, the same bytes
@@ -21,3 +21,7 @@ answers-once o r r′ b b′ entry x x′ k l =
       kept = k .kept ∙ sym (l .kept);
       written = k .written ∙ sym (l .written);
     }
+
+pub refuses-once : (msg refusal : ℕ) (r r′ : Answered) (entry x x′ : List ℕ) → Refuses msg refusal r entry x → Refuses msg refusal r′ entry x′
+    → (r ≡ r′) × (x ≡ x′)
+refuses-once msg refusal r r′ entry x x′ k l = (k .answered ∙ sym (l .answered), k .written ∙ sym (l .written))

@@ -18,3 +18,4 @@ pub mod Pick
 pub mod Inner
 pub mod ReadBack
 pub mod Head
+pub mod Once

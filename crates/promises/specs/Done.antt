@@ -12,7 +12,7 @@ use Rattle.wire.specs.Header.{disconnectMsg, freeCursorMsg, setBindingsMsg}
 
 -- an accepted message that is no request for rows, by the seat afterwards and its reply: "Disconnect .. closes both cursors, leaves the
 -- seat unconnected and writes nothing. Free cursor['s] .. reply is _msg, three zero words and the seat's count of cursors still open";
--- of bindings "the reply is 16 bytes: _msg, zero, zero, zero". What becomes of the cursors is told in Told.antt.
+-- of bindings "the reply is 16 bytes: _msg, zero, zero, zero". What becomes of the cursors is told in Client.antt.
 pub record Done (m : List ℕ) (seat : Option Seat) (reply : List ℕ) : Type 0 where
   pub left : msgOf m ≡ disconnectMsg → (seat ≡ none) × (reply ≡ [])
   pub freed : msgOf m ≡ freeCursorMsg → (s : Seat) → seat ≡ some s → reply ≡ fourWords freeCursorMsg 0 0 0 ++ le 4 (stillOpen s)

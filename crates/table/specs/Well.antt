@@ -6,7 +6,7 @@ use Prim.Native.Nat.{ℕ, _+_, _-_, _*_}
 use lib.Dec.{leb, ltb, eqb}
 use lib.ListN.{length, getD, take, drop}
 use Rattle.lists.specs.Below.{pick, both, everyBelow}
-use Rattle.bindings.specs.Column.{columnsOf}
+use Rattle.bindings.specs.Column.{columnWords, columnsOf}
 use Rattle.lists.specs.Every.{every}
 use Rattle.bindings.specs.Fit.{fit}
 use Rattle.bindings.specs.declared.Column.{Column}
@@ -34,7 +34,7 @@ tidy c =
 -- no bindings: the row width and the records are not in use. Else "its bindings (if any) pass 12"
 abbrev pub boundWell : ℕ → ℕ → List ℕ → Bool
 boundWell n width records =
-    both (fit width (columnsOf n records)) (both (every tidy (columnsOf n records)) (allZero (drop (9 * n) records)))
+    both (fit width (columnsOf n records)) (both (every tidy (columnsOf n records)) (allZero (drop (columnWords * n) records)))
 
 abbrev pub bindingsWell : List ℕ → Bool
 bindingsWell b =

@@ -9,7 +9,8 @@ use Rattle.tree.specs.Leaf.{Leaf}
 use Rattle.tree.specs.LeafHolds.{leafHolds}
 use Rattle.tree.specs.Tree.{Tree, Forest, leaf, and, or, not, end, further}
 
--- "Absent text holds no phrase; a not above it is true": what a tree says where each leaf, told by its position and its content, says what it is given to say
+-- "Absent text holds no phrase; a not above it is true": what a tree says where each leaf, told by its position and its content, says
+-- what it is given to say
 unfoldable mutual
   pub says : (ℕ → Leaf → Bool) → Tree → Bool
   says tells (leaf position l) = tells position l
