@@ -138,8 +138,8 @@ fn refused() -> BindingsRead
     }
 }
 
-// Reads a message that sets bindings: handle, row width and count of columns, and in `words`, nine to a column, the first five
-// columns, zero past the last. A malformed message leaves zeros.
+// Reads a message that sets bindings: handle, row width and count of columns, and in `records`, nine words to a column, the
+// first five columns, zero past the last. A malformed message leaves zeros.
 pub fn read(message: &[u8], records: &mut [u32]) -> BindingsRead
     requires { ⌜ length (now records) ≡ roomWords ⌝ }
     ensures { λ r. ⌜ Told (now (message .entry)) r (now (records .exit)) ⌝ }

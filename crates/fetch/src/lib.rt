@@ -1,6 +1,6 @@
 // A request for rows, and what it does to its cursor: its body, refusals 9, 11, 12, 13 and 15, the reply, and the
-// position (01, "Rows", and the lines of those numbers in the refusal table). Definitions, laws, types and constants;
-// no function.
+// position (01, "Rows", and the lines of those numbers in the refusal table). Definitions, laws and types; no
+// function.
 
 // What a request asks for: the cursor, how many rows of which width, the place of the first row, the reply's size, the client's
 // base, and the seek.

@@ -24,7 +24,7 @@ use Rattle.fetch.specs.declared.Request.{Request}
 use Rattle.fetch.proofs.Ranges.{request-sound}
 use Rattle.fetch.specs.Fetch.{sent, fetched}
 use Rattle.fetch.proofs.Sending.{sent-left, sound-inside}
-use Rattle.message.specs.Message.{msgOf, kindOf, handleOf, gateCauses, bodyCauses, bodyOf, seatCauses, unread, unfit, boundTo, rowsDone, doneOn, seatMessage}
+use Rattle.message.specs.Message.{msgOf, kindOf, handleOf, gateCauses, bodyCauses, bodyOf, seatCauses, noBindings, unfit, boundTo, rowsDone, doneOn, seatMessage}
 use Rattle.table.specs.Open.{isOpen}
 use Rattle.refusal.proofs.First.{first-both}
 use Rattle.message.proofs.Answering.{gate-numbered}
@@ -85,10 +85,10 @@ module _ (P : Option Cursor → Type 0) (none-is : P none) where
         rw (q, k, l)
         (bound-of s m (cursorIn s (handleOf m)) (bindings m) refl (fit-told (rw (q, k, l) at e)) w (cursor-of s (handleOf m) w)))))
       where
-        fit-told : firstCause ((9, unread (bindings m)) ∷ (10, not (isOpen (cursorIn s (handleOf m)))) ∷ (12, unfit (bindings m)) ∷ []) ≡ 0 → unfit (bindings m) ≡ false
+        fit-told : firstCause ((9, noBindings (bindings m)) ∷ (10, not (isOpen (cursorIn s (handleOf m)))) ∷ (12, unfit (bindings m)) ∷ []) ≡ 0 → unfit (bindings m) ≡ false
         fit-told c =
             let r : firstCause ((12, unfit (bindings m)) ∷ []) ≡ 0
-            = first-both ((9, unread (bindings m)) ∷ (10, not (isOpen (cursorIn s (handleOf m)))) ∷ []) ((12, unfit (bindings m)) ∷ [])
+            = first-both ((9, noBindings (bindings m)) ∷ (10, not (isOpen (cursorIn s (handleOf m)))) ∷ []) ((12, unfit (bindings m)) ∷ [])
             ((λ z. omega arith), ((λ z. omega arith), tt)) c .1 in
             by-test (unfit (bindings m)) (λ k. absurd (let z : _≡_ {A = ℕ} 12 0 = rw k at r in omega arith)) (λ k. k)
 

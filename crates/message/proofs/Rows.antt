@@ -168,9 +168,9 @@ module _ (b m reply : List ℕ) (msg : ℕ) (a : AdmittedReady b m reply msg 2) 
             (rows-refused (cursor .0) (cursor .1) n words mid fetched-is h)
             (subst (λ (x : List ℕ). Refuses msg n r x exit) (f .unwritten h) w))
 
-        pub answered-at : n ≡ 0 → Answers (seatMessage (rowsOf (catalogue s)) (seatOf b) m) (record { refusal = 0; count = q .size })
+        pub answered-at : n ≡ 0 → Answers (seatMessage (rowsOf (catalogue s)) (seatOf b) m) (record { refusal = n; count = q .size })
             (put b at (at + cursorSize - at) words) reply mid
         answered-at h =
-            rw (left-is words)
+            rw (left-is words, h)
             (rows-answered (cursor .0) (cursor .1) words mid
             (subst (λ (x : ℕ). Fetched (part b (cursorPlace (handleOf m)) cursorSize) s q x words reply mid) h fetched-is))

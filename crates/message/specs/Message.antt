@@ -73,9 +73,9 @@ abbrev pub notOpen : Seat → List ℕ → ℕ × Bool
 notOpen s m = (10, not (isOpen (cursorIn s (handleOf m))))
 
 -- 9 "body malformed", for set bindings
-abbrev pub unread : Option Bindings → Bool
-unread none = true
-unread (some b) = false
+abbrev pub noBindings : Option Bindings → Bool
+noBindings none = true
+noBindings (some b) = false
 
 -- 12 "bindings unfit", of a body that reads
 abbrev pub unfit : Option Bindings → Bool
@@ -98,7 +98,7 @@ bodyCauses rows kind s m =
     pick (eqb kind disconnects) ((9, not (eqb (length m) headerSize)) ∷ [])
     (pick (eqb kind frees) ((9, not (eqb (length m) (headerSize + 4))) ∷ notOpen s m ∷ [])
     (pick (eqb kind fetches) ((9, unasked (request m)) ∷ notOpen s m ∷ rowsCauses rows (cursorIn s (handleOf m)) (request m))
-    ((9, unread (bindings m)) ∷ notOpen s m ∷ (12, unfit (bindings m)) ∷ [])))
+    ((9, noBindings (bindings m)) ∷ notOpen s m ∷ (12, unfit (bindings m)) ∷ [])))
 
 -- 6 "message number not served", 7 "anything else on an unconnected one", 8 "checksum tested and wrong"
 abbrev pub gateCauses : Option Seat → List ℕ → List (ℕ × Bool)

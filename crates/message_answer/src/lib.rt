@@ -94,7 +94,7 @@ fn fetch(
         return message_gate::refuse(reply, msg, refused);
     }
     Answered {
-        refusal: 0,
+        refusal: refused,
         count: size,
     }
 }

@@ -25,7 +25,7 @@ use Rattle.refusal.proofs.First.{first-both}
 use Rattle.fetch.specs.Request.{request}
 use Rattle.fetch.specs.declared.Request.{Request}
 use Rattle.fetch.specs.Fetch.{sent, fetchReply, fetched}
-use Rattle.message.specs.Message.{msgOf, handleOf, kindOf, kindFrom, served, unread, unfit, boundTo, gateCauses, bodyCauses, bodyOf, seatCauses, rowsDone, doneOn, seatMessage}
+use Rattle.message.specs.Message.{msgOf, handleOf, kindOf, kindFrom, served, noBindings, unfit, boundTo, gateCauses, bodyCauses, bodyOf, seatCauses, rowsDone, doneOn, seatMessage}
 use Rattle.table.specs.Open.{isOpen}
 use Rattle.message.proofs.Answering.{gate-numbered}
 use Rattle.query.specs.Open.{freeHandle}
@@ -111,7 +111,7 @@ module _ (rows : List Row) (s : Seat) (m : List ℕ) where
   binding e = go (cursorIn s (handleOf m)) refl (bindings m) refl e
     where
       go : (o : Option Cursor) → cursorIn s (handleOf m) ≡ o → (x : Option Bindings) → bindings m ≡ x
-          → firstCause ((9, unread x) ∷ (10, not (isOpen o)) ∷ (12, unfit x) ∷ []) ≡ 0 → Binding
+          → firstCause ((9, noBindings x) ∷ (10, not (isOpen o)) ∷ (12, unfit x) ∷ []) ≡ 0 → Binding
       go none h none b w = absurd (let z : _≡_ {A = ℕ} 9 0 = w in omega arith)
       go none h (some x) b w = absurd (let z : _≡_ {A = ℕ} 10 0 = w in omega arith)
       go (some c) h none b w = absurd (let z : _≡_ {A = ℕ} 9 0 = w in omega arith)

@@ -1,3 +1,3 @@
-// The promises over any calls from all seats: the rows that a cursor has carried, the end of its rows, and what a
-// seat's answers depend on, with the numbers M1 to M12 (01, "Rows", "Numbers to check against" and "How much each
-// statement must say"). Definitions and theorems about the other books; no function.
+// The promises of every call and of any calls from all seats: refusals, what accepted calls do, the rows a cursor has
+// carried, what a seat's answers depend on (01, "Refusal numbers, in order of test", "Rows", "How much each statement
+// must say"), with M1 to M12 ("Numbers to check against"). Definitions and theorems; no function.

@@ -29,7 +29,7 @@ re-starting-start = re ++ space ∷ starting ++ space ∷ start
 abbrev pub a-re-start-b : List ℕ
 a-re-start-b = 97 ∷ space ∷ re-start ++ space ∷ 98 ∷ []
 
--- _ulType and a weight; a property of ours
+-- _ulType and a weight
 abbrev pub head : ℕ → List ℕ
 head kind = le 4 kind ++ le 4 1000
 

@@ -30,8 +30,8 @@ fn read_phrase(unread: &[u8], place: usize, at: usize) -> PhraseAt
         return PhraseAt::NoPhrase;
     }
     let clear = both(
-        wire_field::zeros(unread, at, before),
-        wire_field::zeros(unread, end, after),
+        wire_field::zero_at(unread, at, before),
+        wire_field::zero_at(unread, end, after),
     );
     if both(within(1, tree::PHRASE_MOST, units), clear) {
         return PhraseAt::PhraseTo(start, count, next);

@@ -4,7 +4,6 @@ ghost use Prim.Native.Nat.{_+_, _^_, _≤_, _<_};
 ghost use lib.ListN.{length};
 ghost use Rattle.tree.specs.Reader.{leafRead, branchRead, readTree, readList};
 ghost use Rattle.tree.specs.Kinds.{isBranch};
-ghost use Rattle.tree.specs.Kinds.{isBranch};
 ghost use Rattle.tree.specs.NodeTold.{nodeAnswer, nodeUsed, listAnswer, listUsed, notAnswer, branchAnswer, moreAnswer};
 use tree::LeafAt;
 use tree::ListRead;
@@ -128,7 +127,7 @@ fn children(unread: &[u8], place: usize, count: u32, levels: u32, nodes: u32) ->
     if unread.len() < start {
         return ListRead::NoChildren;
     }
-    if !wire_field::zeros(unread, 0, start) {
+    if !wire_field::zero_at(unread, 0, start) {
         return ListRead::NoChildren;
     }
     let part = &unread[start..];

@@ -1,6 +1,6 @@
 // Bytes on the wire: little-endian words, the header of a message and its checksum, padding, properties with their
-// types and sizes, and bytes laid over a buffer (01, "Header and checksum", and the set identifier and property
-// numbers of "The option catalogue"). Definitions, laws, types and constants; no function.
+// types and sizes, and bytes laid over a buffer (01, "Header and checksum", and of "The option catalogue", "Bindings"
+// and "Restriction trees" what properties and padding are). Definitions, laws, types and constants; no function.
 
 // A place after padding.
 pub enum PlaceRead {

@@ -36,7 +36,7 @@ pub fn padding(place: usize) -> usize
 }
 
 // Whether so many bytes from a place on are zero.
-pub fn zeros(bytes: &[u8], at: usize, count: usize) -> bool
+pub fn zero_at(bytes: &[u8], at: usize, count: usize) -> bool
     requires { ⌜ at + count ≤ length (now bytes) ⌝ }
     ensures { λ r. ⌜ r ≡ zeroAt (now (bytes .entry)) at count ⌝ }
 {
@@ -59,7 +59,7 @@ pub fn padded_on(message: &[u8], at: usize, unit: usize) -> PlaceRead
     if !room(message.len(), at, pad) {
         return PlaceRead::Malformed;
     }
-    if !zeros(message, at, pad) {
+    if !zero_at(message, at, pad) {
         return PlaceRead::Malformed;
     }
     let next = at + pad;

@@ -46,11 +46,11 @@ add-next c = search needs
 returns-2 : tie.Need-returns-2
 returns-2 c = let a = c .before .before .before .before .before .before .args in phrase-cut (a .unread .now) (a .place) (a .at) _ (c .before .before .before .before .padding .ensures) _ _ (c .before .before .word .ensures) (c .before .padding2 .ensures) (c .if2 .taken)
 
-zeros-requires : tie.Need-zeros-requires
-zeros-requires c κs = search needs
+zero-at-requires : tie.Need-zero-at-requires
+zero-at-requires c κs = search needs
 
-zeros-requires-2 : tie.Need-zeros-requires-2
-zeros-requires-2 c κs = search needs
+zero-at-requires-2 : tie.Need-zero-at-requires-2
+zero-at-requires-2 c κs = search needs
 
 both-requires : tie.Need-both-requires
 both-requires c κs = search needs
@@ -68,7 +68,7 @@ returns-3 c = let a = c .before .before .before .before .before .before .before 
     (c .before .before .before .before .before .before .before .padding2 .ensures)
     (c .before .before .before .before .before .before .if2 .left)
     true
-    (sym (c .if3 .taken) ∙ c .before .both2 .ensures ∙ ap₂ both (c .before .before .within .ensures) (c .before .before .before .both .ensures ∙ ap₂ both (c .before .before .before .before .before .zeros .ensures) (c .before .before .before .before .zeros2 .ensures)))
+    (sym (c .if3 .taken) ∙ c .before .both2 .ensures ∙ ap₂ both (c .before .before .within .ensures) (c .before .before .before .both .ensures ∙ ap₂ both (c .before .before .before .before .before .zero-at .ensures) (c .before .before .before .before .zero-at2 .ensures)))
 
 returns-4 : tie.Need-returns-4
 returns-4 c = let a = c .before .before .before .before .before .before .before .before .before .before .before .before .args in
@@ -77,7 +77,7 @@ returns-4 c = let a = c .before .before .before .before .before .before .before 
     (c .before .before .before .before .before .before .before .padding2 .ensures)
     (c .before .before .before .before .before .before .if2 .left)
     false
-    (sym (c .if3 .left) ∙ c .before .both2 .ensures ∙ ap₂ both (c .before .before .within .ensures) (c .before .before .before .both .ensures ∙ ap₂ both (c .before .before .before .before .before .zeros .ensures) (c .before .before .before .before .zeros2 .ensures)))
+    (sym (c .if3 .left) ∙ c .before .both2 .ensures ∙ ap₂ both (c .before .before .within .ensures) (c .before .before .before .both .ensures ∙ ap₂ both (c .before .before .before .before .before .zero-at .ensures) (c .before .before .before .before .zero-at2 .ensures)))
 
 pub read-phrase-spec : {M : Type 1} → statement M
 read-phrase-spec =
@@ -96,8 +96,8 @@ read-phrase-spec =
     padding-requires-2
     add-next
     returns-2
-    zeros-requires
-    zeros-requires-2
+    zero-at-requires
+    zero-at-requires-2
     both-requires
     within-requires
     both-requires-2

@@ -14,7 +14,7 @@ use Rattle.tree_node.proofs.node.Reads as node
 use Rattle.tree_node.proofs.node.Kinds as node-kinds
 use Rattle.tree_node.proofs.+branch+children+node.Lts-node as node-lts
 use Rattle.wire_field.proofs.padding.Reads as padding-reads
-use Rattle.wire_field.proofs.zeros.Reads as zeros-reads
+use Rattle.wire_field.proofs.zero_at.Reads as zero-at-reads
 use Rattle.tree_node.proofs.is_branch.Reads as is-branch-reads
 use Rattle.tree_node.proofs.joined.Reads as joined-reads
 use Rattle.tree_node.proofs.leaf_node.Reads as leaf-node-reads
@@ -67,7 +67,7 @@ abbrev branch-has : ℕ → branch-lts.Claims
 branch-has t = (word-reads.Asked, word-reads.Learnt, children-below t, children.Post, joined-reads.Asked, joined-reads.Learnt)
 
 abbrev children-has : ℕ → children-lts.Claims
-children-has t = (padding-reads.Asked, padding-reads.Learnt, zeros-reads.Asked, zeros-reads.Learnt, node-below t, node.Post, children-below t, children.Post, with-more-reads.Asked, with-more-reads.Learnt)
+children-has t = (padding-reads.Asked, padding-reads.Learnt, zero-at-reads.Asked, zero-at-reads.Learnt, node-below t, node.Post, children-below t, children.Post, with-more-reads.Asked, with-more-reads.Learnt)
 
 abbrev node-has : ℕ → node-lts.Claims
 node-has t = (word-reads.Asked, word-reads.Learnt, is-branch-reads.Asked, is-branch-reads.Learnt, branch-below t, branch.Post, node-below t, node.Post, negated-reads.Asked, negated-reads.Learnt, leaf-node-reads.Asked, leaf-node-reads.Learnt)
@@ -129,13 +129,13 @@ children-returns-2 t c =
     let a = c .before .before .before .before .args in
     (list-short (readTree (a .levels)) (a .count) (a .nodes) (a .place) (a .unread .now) (c .before .padding .result) (c .before .padding .ensures) (c .before .before .if1 .left) (c .if2 .taken), search needs)
 
-children-zeros-requires : (t : ℕ) → children-lts.Need-zeros-requires (children-has t) (children-at t) children.Post
-children-zeros-requires t c κs = search needs
+children-zero-at-requires : (t : ℕ) → children-lts.Need-zero-at-requires (children-has t) (children-at t) children.Post
+children-zero-at-requires t c κs = search needs
 
 children-returns-3 : (t : ℕ) → children-lts.Need-returns-3 (children-has t) (children-at t) children.Post
 children-returns-3 t c =
     let a = c .before .before .before .before .before .before .args in (
-      list-unclear (readTree (a .levels)) (a .count) (a .nodes) (a .place) (a .unread .now) (c .before .before .before .padding .result) (c .before .before .before .padding .ensures) (c .before .before .before .before .if1 .left) (c .before .before .if2 .left) (sym (c .before .zeros .ensures) ∙ not-true _ (c .if3 .taken)),
+      list-unclear (readTree (a .levels)) (a .count) (a .nodes) (a .place) (a .unread .now) (c .before .before .before .padding .result) (c .before .before .before .padding .ensures) (c .before .before .before .before .if1 .left) (c .before .before .if2 .left) (sym (c .before .zero-at .ensures) ∙ not-true _ (c .if3 .taken)),
       search needs,
     )
 
@@ -165,7 +165,7 @@ children-enum-told t c = search needs
 children-returns-4 : (t : ℕ) → children-lts.Need-returns-4 (children-has t) (children-at t) children.Post
 children-returns-4 t c =
     let a = c .before .before .before .before .before .before .before .before .before .before .args in (
-      list-bad (readTree (a .levels)) (a .count) (a .nodes) (a .place) (a .unread .now) (c .before .before .before .before .before .before .before .padding .result) (c .before .before .before .before .before .before .before .padding .ensures) (c .before .before .before .before .before .before .before .before .if1 .left) (c .before .before .before .before .before .before .if2 .left) (sym (c .before .before .before .before .before .zeros .ensures) ∙ not-false _ (c .before .before .before .before .if3 .left)) (sym (c .enum-told .given .1) ∙ c .before .before .node .ensures .0),
+      list-bad (readTree (a .levels)) (a .count) (a .nodes) (a .place) (a .unread .now) (c .before .before .before .before .before .before .before .padding .result) (c .before .before .before .before .before .before .before .padding .ensures) (c .before .before .before .before .before .before .before .before .if1 .left) (c .before .before .before .before .before .before .if2 .left) (sym (c .before .before .before .before .before .zero-at .ensures) ∙ not-false _ (c .before .before .before .before .if3 .left)) (sym (c .enum-told .given .1) ∙ c .before .before .node .ensures .0),
       search needs,
     )
 
@@ -209,7 +209,7 @@ children-returns-5 t c =
     let a = c .before .before .before .before .before .before .before .before .before .before .before .before .before .before .args in
     let v = c .before .before .before .before .used .given in
     let n = next-inside t (c .before .before .before) in (
-      c .with-more .ensures ∙ list-by (readTree (a .levels)) (a .count) (a .nodes) (a .place) (a .unread .now) (c .before .before .before .before .before .before .before .before .before .before .before .padding .result) (c .before .before .before .before .before .before .before .before .before .before .before .padding .ensures) (c .before .before .before .before .before .before .before .before .before .before .before .before .if1 .left) (c .before .before .before .before .before .before .before .before .before .before .if2 .left) (sym (c .before .before .before .before .before .before .before .before .before .zeros .ensures) ∙ not-false _ (c .before .before .before .before .before .before .before .before .if3 .left))
+      c .with-more .ensures ∙ list-by (readTree (a .levels)) (a .count) (a .nodes) (a .place) (a .unread .now) (c .before .before .before .before .before .before .before .before .before .before .before .padding .result) (c .before .before .before .before .before .before .before .before .before .before .before .padding .ensures) (c .before .before .before .before .before .before .before .before .before .before .before .before .if1 .left) (c .before .before .before .before .before .before .before .before .before .before .if2 .left) (sym (c .before .before .before .before .before .before .before .before .before .zero-at .ensures) ∙ not-false _ (c .before .before .before .before .before .before .before .before .if3 .left))
           (v .0 .0) (v .0 .1 .0) (c .before .children .result)
           (sym (v .1) ∙ c .before .before .before .before .before .before .node .ensures .0)
           (c .before .children .ensures .0),
@@ -289,5 +289,5 @@ pub +branch+children+node-spec : {M : Type 1} → statement M
 +branch+children+node-spec =
     close μ-branch μ-children μ-node
     (λ t. branch-lts.spec (branch-has t) (branch-at t) branch.Post (branch-returns t) (branch-word-requires t) (branch-returns-2 t) (branch-sub-list t) (branch-part-list-start t) (branch-part-list-end t) (branch-add-at t) (branch-children-requires t) (branch-joined-requires t) (branch-returns-3 t))
-    (λ t. children-lts.spec (children-has t) (children-at t) children.Post (children-returns t) (children-padding-requires t) (children-returns-2 t) (children-zeros-requires t) (children-returns-3 t) (children-sub-part t) (children-part-part-start t) (children-part-part-end t) (children-add-at t) (children-node-requires t) (children-enum-known-used t) (children-enum-told t) (children-returns-4 t) (children-add-next t) (children-sub-rest t) (children-part-rest-start t) (children-part-rest-end t) (children-add-after t) (children-sub-children t) (children-children-requires t) (children-with-more-requires t) (children-returns-5 t))
+    (λ t. children-lts.spec (children-has t) (children-at t) children.Post (children-returns t) (children-padding-requires t) (children-returns-2 t) (children-zero-at-requires t) (children-returns-3 t) (children-sub-part t) (children-part-part-start t) (children-part-part-end t) (children-add-at t) (children-node-requires t) (children-enum-known-used t) (children-enum-told t) (children-returns-4 t) (children-add-next t) (children-sub-rest t) (children-part-rest-start t) (children-part-rest-end t) (children-add-after t) (children-sub-children t) (children-children-requires t) (children-with-more-requires t) (children-returns-5 t))
     (λ t. node-lts.spec (node-has t) (node-at t) node.Post (node-returns t) (node-returns-2 t) (node-returns-3 t) (node-word-requires t) (node-sub-below t) (node-sub-left t) (node-is-branch-requires t) (node-branch-requires t) (node-returns-4 t) (node-sub-child t) (node-part-child-start t) (node-part-child-end t) (node-add-at t) (node-node-requires t) (node-negated-requires t) (node-returns-5 t) (node-leaf-node-requires t) (node-returns-6 t))

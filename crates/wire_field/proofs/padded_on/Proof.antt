@@ -19,8 +19,8 @@ returns : tie.Need-returns
 unfolding paddedOn
 returns c = rw (← c .before .before .padding-to .ensures, sym (c .before .room .ensures) ∙ not-true _ (c .if1 .taken))
 
-zeros-requires : tie.Need-zeros-requires
-zeros-requires c κs = let a = c .before .before .before .before .args in
+zero-at-requires : tie.Need-zero-at-requires
+zero-at-requires c κs = let a = c .before .before .before .before .args in
     room-there (a .at) (c .before .before .padding-to .result) (length (a .message .now)) (c .before .room .ensures) (c .if1 .left)
 
 returns-2 : tie.Need-returns-2
@@ -29,7 +29,7 @@ returns-2 c =
     rw (
       ← c .before .before .before .before .padding-to .ensures,
       sym (c .before .before .before .room .ensures) ∙ not-false _ (c .before .before .if1 .left),
-      sym (c .before .zeros .ensures) ∙ not-true _ (c .if2 .taken),
+      sym (c .before .zero-at .ensures) ∙ not-true _ (c .if2 .taken),
     )
 
 add-next : tie.Need-add-next
@@ -42,10 +42,10 @@ returns-3 c =
     rw (
       ← c .before .before .before .before .padding-to .ensures,
       sym (c .before .before .before .room .ensures) ∙ not-false _ (c .before .before .if1 .left),
-      sym (c .before .zeros .ensures) ∙ not-false _ (c .if2 .left),
+      sym (c .before .zero-at .ensures) ∙ not-false _ (c .if2 .left),
     )
 
 pub padded-on-spec : {M : Type 1} → statement M
 padded-on-spec =
     tie.close
-    (tie.spec padding-to-requires room-requires returns zeros-requires returns-2 add-next returns-3)
+    (tie.spec padding-to-requires room-requires returns zero-at-requires returns-2 add-next returns-3)

@@ -1,6 +1,6 @@
 -- The bytes passed are zero (the loop's invariant); one that is not shows that not each is. Assumes nothing.
-use Rattle.wire_field.proofs.zeros.Statement.{statement}
-use Rattle.wire_field.proofs.zeros.Tie as tie
+use Rattle.wire_field.proofs.zero_at.Statement.{statement}
+use Rattle.wire_field.proofs.zero_at.Tie as tie
 use borrow.Author.Needs.{needs}
 use mathlib.Core.Path.{_≡_, sym}
 use mathlib.Core.Bool.{true}
@@ -44,8 +44,8 @@ returns-2 : tie.Need-returns-2 Inv-loop μ-loop
 unfolding zeroAt
 returns-2 c = let a = c .before .before .args in sym (every-shown (a .count) (λ i. eqb (getD (a .bytes .now) (a .at + i) 0) 0) (λ k h. c .before .loop .inv .1 k (search needs)))
 
-pub zeros-spec : {M : Type 1} → statement M
-zeros-spec =
+pub zero-at-spec : {M : Type 1} → statement M
+zero-at-spec =
     tie.close
     (tie.spec
     Inv-loop
