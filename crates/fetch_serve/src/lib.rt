@@ -1,12 +1,11 @@
 // A request for rows on one cursor: refusals 11, 12, 13 and 15, the reply, and the position.
 ghost use mathlib.Core.Path.{_≡_};
-ghost use lib.ListN.{length, drop};
-ghost use mathlib.Core.List.{_++_};
+ghost use lib.ListN.{length};
 ghost use Rattle.catalogue.specs.Plain.{rowsIn};
 ghost use Rattle.table.specs.Layout.{cursorSize};
 ghost use Rattle.table.specs.Seat.{cursorHeld};
 ghost use Rattle.refusal.specs.Refusal.{firstCause};
-ghost use Rattle.fetch.specs.Fetch.{notServed, firstUnfit, remaining, earlyCauses, sent, fetchReply};
+ghost use Rattle.fetch.specs.Fetch.{notServed, firstUnfit, remaining, earlyCauses};
 ghost use Rattle.fetch.specs.FetchReady.{FetchReady};
 ghost use Rattle.fetch.specs.FetchTold.{RowsSent, Fetched};
 use fetch::Request;

@@ -1,6 +1,5 @@
 // The lines of a calls file and of its answers: the bytes that a part of a line spells, and each kind of answer laid
 // in the output.
-ghost use mathlib.Core.Path.{_≡_};
 ghost use mathlib.Core.List.{_++_};
 ghost use Prim.Native.Nat.{_+_, _*_, _/_, _≤_};
 ghost use lib.ListN.{length, take, drop};

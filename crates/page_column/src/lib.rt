@@ -10,7 +10,7 @@ ghost use Rattle.wire.specs.Property.{lengthSize};
 ghost use Rattle.bindings.specs.Fit.{isUsed};
 ghost use Rattle.wire.specs.Laid.{lay, lays};
 ghost use Rattle.page.specs.FieldPlaces.{fieldSeen, cellBytes};
-ghost use Rattle.page.specs.Cell.{blockOf, blockSize, blockSpan, laidIf, blockRoom, columnSpans};
+ghost use Rattle.page.specs.Cell.{blockOf, blockSize, blockSpan, laidIf};
 ghost use Rattle.page.specs.PageTold.{ColumnLaid};
 ghost use Rattle.page.specs.FieldReady.{FieldReady, SpansReady, ColumnReady};
 ghost use Rattle.catalogue.specs.CatalogueReady.{UnitsReady};

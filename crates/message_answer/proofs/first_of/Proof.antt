@@ -1,5 +1,4 @@
 -- `message_answer::first_of` meets its contract: the tests stand in the order of the causes. Assumes nothing.
-use borrow.Author.Needs.{needs}
 use Rattle.message_answer.proofs.first_of.Statement.{statement}
 use Rattle.message_answer.proofs.first_of.Tie as tie
 use borrow.Author.Tests.{not-true, not-false}
