@@ -1,9 +1,13 @@
-// The body of a request for rows, read to values.
+// A request for rows: its body read to values, and judged beside its cursor.
 ghost use mathlib.Core.Path.{_≡_};
 ghost use Prim.Native.Nat.{_≤_};
 ghost use lib.ListN.{length};
+ghost use Rattle.table.specs.Layout.{cursorSize};
+ghost use Rattle.table.specs.Seat.{cursorHeld};
+ghost use Rattle.refusal.specs.Refusal.{firstCause};
 ghost use Rattle.fetch.specs.Request.{leastSize, inRange, seekFits, asked, request};
 ghost use Rattle.fetch.specs.Asking.{asking};
+ghost use Rattle.fetch.specs.Fetch.{notServed, earlyCauses};
 use fetch::Asking;
 use fetch::Request;
 
@@ -111,4 +115,37 @@ pub fn read(message: &[u8]) -> Asking
         return Asking::Malformed;
     }
     Asking::Asked(values(message, reserved))
+}
+
+// A request that refusal 13 names.
+fn not_served(request: Request) -> bool
+    ensures { λ r. ⌜ r ≡ notServed request ⌝ }
+{
+    if request.seek != NEXT {
+        return true;
+    }
+    if request.chapter != 0 {
+        return true;
+    }
+    if request.skip != 0 {
+        return true;
+    }
+    request.backward != 0
+}
+
+// Refusals 11 to 13, of a cursor's words.
+pub fn judge(cursor: &[u32], request: Request) -> u32
+    requires { ⌜ length (now cursor) ≡ cursorSize ⌝ }
+    ensures { λ r. ⌜ r ≡ firstCause (earlyCauses (cursorHeld (now (cursor .entry))) request) ⌝ }
+{
+    if cursor[table::COLUMNS] == 0 {
+        return 11;
+    }
+    if request.width != cursor[table::WIDTH] {
+        return 12;
+    }
+    if not_served(request) {
+        return 13;
+    }
+    0
 }

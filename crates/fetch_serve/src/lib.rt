@@ -1,49 +1,15 @@
-// A request for rows on one cursor: refusals 11, 12, 13 and 15, the reply, and the position.
+// A request for rows on one cursor: refusals 11 to 13 and 15, the reply, and the position.
 ghost use mathlib.Core.Path.{_≡_};
 ghost use lib.ListN.{length};
 ghost use Rattle.catalogue.specs.Plain.{rowsIn};
-ghost use Rattle.table.specs.Layout.{cursorSize};
 ghost use Rattle.table.specs.Seat.{cursorHeld};
 ghost use Rattle.refusal.specs.Refusal.{firstCause};
-ghost use Rattle.fetch.specs.Fetch.{notServed, firstUnfit, remaining, earlyCauses};
+ghost use Rattle.fetch.specs.Fetch.{firstUnfit, remaining, earlyCauses};
 ghost use Rattle.fetch.specs.FetchReady.{FetchReady};
 ghost use Rattle.fetch.specs.FetchTold.{RowsSent, Fetched};
 use fetch::Request;
 use page::Row;
 use page::Sheet;
-
-// A request that refusal 13 names.
-fn not_served(request: Request) -> bool
-    ensures { λ r. ⌜ r ≡ notServed request ⌝ }
-{
-    if request.seek != 1 {
-        return true;
-    }
-    if request.chapter != 0 {
-        return true;
-    }
-    if request.skip != 0 {
-        return true;
-    }
-    request.backward != 0
-}
-
-// Refusals 11 to 13.
-fn judge(cursor: &[u32], request: Request) -> u32
-    requires { ⌜ length (now cursor) ≡ cursorSize ⌝ }
-    ensures { λ r. ⌜ r ≡ firstCause (earlyCauses (cursorHeld (now (cursor .entry))) request) ⌝ }
-{
-    if cursor[table::COLUMNS] == 0 {
-        return 11;
-    }
-    if request.width != cursor[table::WIDTH] {
-        return 12;
-    }
-    if not_served(request) {
-        return 13;
-    }
-    0
-}
 
 // A row is asked for and remains, but the first does not fit.
 fn first_unfit(cursor: &[u32], request: Request, catalogue: &[u8], places: &[u32]) -> bool
@@ -120,7 +86,7 @@ pub fn fetch(
     ensures { λ r. ⌜ Fetched (now (cursor .entry)) (now (catalogue .entry)) request r
         (now (cursor .exit)) (now (reply .entry)) (now (reply .exit)) ⌝ }
 {
-    let refusal = judge(cursor, request);
+    let refusal = fetch_request::judge(cursor, request);
     if refusal != 0 {
         return refusal;
     }

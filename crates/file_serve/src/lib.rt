@@ -75,19 +75,14 @@ fn serve_chunk(
     here
 }
 
-// Serves all lines of an open file. A proved loop has to end, and nothing says that a file does: so the loop counts its turns
-// down, from a number that no run uses up.
-fn serve_file(
-    fd: i32,
-    path: &[u8],
-    chunk: &mut [u8],
-    line: &mut [u8],
-    table: &mut [u32],
-    catalogue: &mut [u8],
-    out: &mut [u8],
-)
-    requires { ⌜ BuffersReady (length (now line)) (length (now table)) (length (now catalogue)) (length (now out)) ⌝ }
-{
+// Serves the recorded calls of an open file, and writes the answers to standard output. A proved loop has to end, and nothing
+// says that a file does: so the loop counts its turns down, from a number that no run uses up.
+pub fn replay(fd: i32, path: &[u8]) {
+    let mut table = [0u32; table::TABLE_SIZE];
+    let mut catalogue = [0u8; line::CATALOGUE_MOST];
+    let mut line = [0u8; 131072];
+    let mut out = [0u8; 131072];
+    let mut chunk = [0u8; 65536];
     let mut place = Place {
         number: 1,
         kept: 0,
@@ -97,33 +92,23 @@ fn serve_file(
     };
     let mut turns = u64::MAX;
     while turns > 0 {
-        let count = file_buffer::read_some(fd, path, chunk);
+        let count = file_buffer::read_some(fd, path, &mut chunk);
         if count == 0 {
             turns = 0;
         } else {
-            place = serve_chunk(&chunk[0..count], place, line, table, catalogue, out);
+            let part = &chunk[0..count];
+            place = serve_chunk(part, place, &mut line, &mut table, &mut catalogue, &mut out);
             turns -= 1;
         }
     }
     // a last line may lack its line feed; where it does not, this one ends a line without words, which is passed over
-    let end = serve_chunk(b"\n", place, line, table, catalogue, out);
-    file_buffer::written(out, end.used, 0);
-}
-
-// Serves the recorded calls of an open file, and writes the answers to standard output.
-pub fn replay(fd: i32, path: &[u8]) {
-    let mut table = [0u32; table::TABLE_SIZE];
-    let mut catalogue = [0u8; line::CATALOGUE_MOST];
-    let mut line = [0u8; 131072];
-    let mut out = [0u8; 131072];
-    let mut chunk = [0u8; 65536];
-    serve_file(
-        fd,
-        path,
-        &mut chunk,
+    let end = serve_chunk(
+        b"\n",
+        place,
         &mut line,
         &mut table,
         &mut catalogue,
         &mut out,
     );
+    file_buffer::written(&out, end.used, 0);
 }

@@ -2,7 +2,8 @@
 ghost use mathlib.Core.Path.{_≡_};
 ghost use Prim.Native.Nat.{_≤_};
 ghost use lib.ListN.{length};
-ghost use Rattle.line.specs.Line.{numberWord, hexWord, whole, callOf};
+ghost use Rattle.line.specs.Line.{numberWord, hexWord, withNumber, withHex, whole, callOf};
+ghost use Rattle.line.specs.declared.Call.the-variants.{Nothing};
 ghost use Rattle.line.specs.Line.{catalogueFrom, connectFrom, openFrom, messageFrom, roomFrom, wordFrom};
 ghost use Rattle.line.specs.CallReady.{numberEnds, hexEnds, CallReady};
 use line::BYTES_MOST;
@@ -64,50 +65,75 @@ fn whole(line: &[u8], at: usize, call: Call) -> Call
     call
 }
 
+// What a line is whose number word, or hex word, does not read.
+fn number_fault(number: Number) -> Call
+    ensures { λ r. ⌜ r ≡ withNumber number (λ value end. Nothing) ⌝ }
+{
+    match number {
+        Number::Fault(reason) => Call::Fault(reason),
+        Number::Is(_, _) => Call::Nothing,
+    }
+}
+
+fn hex_fault(hex: Hex) -> Call
+    ensures { λ r. ⌜ r ≡ withHex hex (λ first last end. Nothing) ⌝ }
+{
+    match hex {
+        Hex::Fault(reason) => Call::Fault(reason),
+        Hex::Is(_, _, _) => Call::Nothing,
+    }
+}
+
 fn catalogue(line: &[u8], at: usize) -> Call
     requires { ⌜ at ≤ length (now line) ⌝ }
     ensures { λ r. ⌜ (r ≡ catalogueFrom (now (line .entry)) at) × CallReady (length (now (line .entry))) r ⌝ }
 {
-    match hex_word(line, at, CATALOGUE_MOST) {
-        Hex::Fault(reason) => Call::Fault(reason),
-        Hex::Is(first, last, end) => whole(line, end, Call::Catalogue(first, last)),
-    }
+    let hex = hex_word(line, at, CATALOGUE_MOST);
+    let Hex::Is(first, last, end) = hex else {
+        return hex_fault(hex);
+    };
+    whole(line, end, Call::Catalogue(first, last))
 }
 
 fn connect(line: &[u8], at: usize) -> Call
     requires { ⌜ at ≤ length (now line) ⌝ }
     ensures { λ r. ⌜ (r ≡ connectFrom (now (line .entry)) at) × CallReady (length (now (line .entry))) r ⌝ }
 {
-    match number_word(line, at) {
-        Number::Fault(reason) => Call::Fault(reason),
-        Number::Is(seat, next) => match number_word(line, next) {
-            Number::Fault(reason) => Call::Fault(reason),
-            Number::Is(version, end) => whole(line, end, Call::Connect(seat, version)),
-        },
-    }
+    let number = number_word(line, at);
+    let Number::Is(seat, next) = number else {
+        return number_fault(number);
+    };
+    let further = number_word(line, next);
+    let Number::Is(version, end) = further else {
+        return number_fault(further);
+    };
+    whole(line, end, Call::Connect(seat, version))
 }
 
 fn open(line: &[u8], at: usize) -> Call
     requires { ⌜ at ≤ length (now line) ⌝ }
     ensures { λ r. ⌜ (r ≡ openFrom (now (line .entry)) at) × CallReady (length (now (line .entry))) r ⌝ }
 {
-    match number_word(line, at) {
-        Number::Fault(reason) => Call::Fault(reason),
-        Number::Is(seat, next) => match hex_word(line, next, BYTES_MOST) {
-            Hex::Fault(reason) => Call::Fault(reason),
-            Hex::Is(first, last, end) => whole(line, end, Call::Open(seat, first, last)),
-        },
-    }
+    let number = number_word(line, at);
+    let Number::Is(seat, next) = number else {
+        return number_fault(number);
+    };
+    let hex = hex_word(line, next, BYTES_MOST);
+    let Hex::Is(first, last, end) = hex else {
+        return hex_fault(hex);
+    };
+    whole(line, end, Call::Open(seat, first, last))
 }
 
 fn message(line: &[u8], at: usize) -> Call
     requires { ⌜ at ≤ length (now line) ⌝ }
     ensures { λ r. ⌜ (r ≡ messageFrom (now (line .entry)) at) × CallReady (length (now (line .entry))) r ⌝ }
 {
-    match number_word(line, at) {
-        Number::Fault(reason) => Call::Fault(reason),
-        Number::Is(seat, next) => message_from(line, next, seat),
-    }
+    let number = number_word(line, at);
+    let Number::Is(seat, next) = number else {
+        return number_fault(number);
+    };
+    message_from(line, next, seat)
 }
 
 // The room and the bytes of a message.
@@ -115,40 +141,36 @@ fn message_from(line: &[u8], at: usize, seat: u32) -> Call
     requires { ⌜ at ≤ length (now line) ⌝ }
     ensures { λ r. ⌜ (r ≡ roomFrom seat (now (line .entry)) at) × CallReady (length (now (line .entry))) r ⌝ }
 {
-    match number_word(line, at) {
-        Number::Fault(reason) => Call::Fault(reason),
-        Number::Is(room, next) => {
-            if ROOM_MOST < room {
-                return Call::Fault(Reason::TooLong);
-            }
-            match hex_word(line, next, BYTES_MOST) {
-                Hex::Fault(reason) => Call::Fault(reason),
-                Hex::Is(first, last, end) => whole(
-                    line,
-                    end,
-                    Call::Message(seat, room, first, last),
-                ),
-            }
-        }
+    let number = number_word(line, at);
+    let Number::Is(room, next) = number else {
+        return number_fault(number);
+    };
+    if ROOM_MOST < room {
+        return Call::Fault(Reason::TooLong);
     }
+    let hex = hex_word(line, next, BYTES_MOST);
+    let Hex::Is(first, last, end) = hex else {
+        return hex_fault(hex);
+    };
+    whole(line, end, Call::Message(seat, room, first, last))
 }
 
 fn word(line: &[u8], at: usize) -> Call
     requires { ⌜ at ≤ length (now line) ⌝ }
     ensures { λ r. ⌜ (r ≡ wordFrom (now (line .entry)) at) × CallReady (length (now (line .entry))) r ⌝ }
 {
-    match number_word(line, at) {
-        Number::Fault(reason) => Call::Fault(reason),
-        Number::Is(index, next) => {
-            if INDEX_MOST < index {
-                return Call::Fault(Reason::NoSuchWord);
-            }
-            match number_word(line, next) {
-                Number::Fault(reason) => Call::Fault(reason),
-                Number::Is(value, end) => whole(line, end, Call::Word(index, value)),
-            }
-        }
+    let number = number_word(line, at);
+    let Number::Is(index, next) = number else {
+        return number_fault(number);
+    };
+    if INDEX_MOST < index {
+        return Call::Fault(Reason::NoSuchWord);
     }
+    let further = number_word(line, next);
+    let Number::Is(value, end) = further else {
+        return number_fault(further);
+    };
+    whole(line, end, Call::Word(index, value))
 }
 
 // The call that a line is, its comment cut off.

@@ -119,6 +119,20 @@ module _ (s places numbers : List ℕ) (i at : ℕ) (inside : i < length numbers
         more : ℕ
         more = returned width columns (asked - (i + 1)) (room - need) (rowsAt s places (drop (i + 1) numbers))
 
+-- one row more is counted
+pub counted-on : (sent rest : ℕ) {all more : ℕ} → all ≡ sent + more → more ≡ suc rest → all ≡ (sent + 1) + rest
+counted-on sent rest e f = omega (arith, e, f)
+
+-- what a row that fits leaves: its blocks end below the reply's size, the next row begins below them, and the room between the two
+pub record Turned (size row top width need place : ℕ) : Type 0 where
+  pub below : place ≤ size
+  pub apart : row + width ≤ place
+  pub left : place - (row + width) ≡ top - row - need
+
+pub turned : (size row top width blocks need place : ℕ) → top ≤ size → row ≤ top → need ≡ width + blocks → need ≤ top - row → place ≡ top - blocks
+    → Turned size row top width need place
+turned size row top width blocks need place a b c d e = record { below = omega arith; apart = omega arith; left = omega arith }
+
 -- all rows are laid
 pub lay-end : (t : List ℕ) (base width row top : ℕ) (columns : List Column) (rows : List Row) (k : ℕ) → k ≡ 0
     → lays t (rowsSpans base width row top columns (take k rows)) ≡ t

@@ -42,11 +42,13 @@ module _ (s : List ℕ) (x : Text) (stands : UnitsReady s x) where
   pub units-double : 0 < x .size → textSize (halves (unitsPart s x)) ≡ 2 * x .size
   units-double h = omega (arith, halves-length (unitsPart s x), units-length)
 
-  -- the units copied, and a zero unit after them
-  pub text-laid : (t : List ℕ) (place : ℕ) → Bytes s → place + length (unitsPart s x) ≤ length t
-      → lay (lay t place (unitsPart s x)) (place + length (unitsPart s x)) (le 2 0) ≡ lay t place (blockOf (halves (unitsPart s x)))
+  -- the units copied, and a zero unit laid after them
+  pub text-laid : (t : List ℕ) (place : ℕ) {units copied laid : List ℕ} → Bytes s → place + length (unitsPart s x) ≤ length t → units ≡ unitsPart s x
+      → copied ≡ lay t place units → laid ≡ lay copied (place + length units) (le 2 0) → laid ≡ lay t place (blockOf (halves (unitsPart s x)))
   unfolding le
-  text-laid t place bytes inside =
-      lay-join t place (unitsPart s x) (0 ∷ 0 ∷ []) inside
+  text-laid t place bytes inside e₁ e₂ e₃ =
+      e₃
+      ∙ rw (e₂, e₁)
+      (lay-join t place (unitsPart s x) (0 ∷ 0 ∷ []) inside
       ∙ ap (λ (u : List ℕ). lay t place (u ++ (0 ∷ 0 ∷ [])))
-      (sym (written-halves (unitsPart s x) (x .size - 1) units-length (bytes-part (unitBytesOf (x .size)) (x .start) s bytes)))
+      (sym (written-halves (unitsPart s x) (x .size - 1) units-length (bytes-part (unitBytesOf (x .size)) (x .start) s bytes))))

@@ -34,15 +34,21 @@ pub read-number : (t : List ℕ) (n at v : ℕ) → v < 256 ^ n → part t at n 
 unfolding numberAt
 read-number t n at v h e = ap number e ∙ number-le n v h
 
--- a number laid in two parts
-pub lay-parts : (m n : ℕ) (t : List ℕ) (at v : ℕ) → at + m ≤ length t → lay (lay t at (le m v)) (at + m) (le n (v / 256 ^ m)) ≡ lay t at (le (m + n) v)
-lay-parts m n t at v h = lay-next t at m (le m v) (le n (v / 256 ^ m)) (le-length m v) h ∙ ap (lay t at) (le-join m n v)
+-- a number laid in two parts, the second over what the first left
+pub lay-parts : (m n : ℕ) (t : List ℕ) (at v : ℕ) {half whole : List ℕ} → at + m ≤ length t → half ≡ lay t at (le m v)
+    → whole ≡ lay half (at + m) (le n (v / 256 ^ m)) → whole ≡ lay t at (le (m + n) v)
+lay-parts m n t at v h a b =
+    b ∙ rw a (lay-next t at m (le m v) (le n (v / 256 ^ m)) (le-length m v) h ∙ ap (lay t at) (le-join m n v))
 
--- numbers laid one after the other
-pub lay-fours : (t : List ℕ) (at a b c d : ℕ) → at + 12 ≤ length t
-    → lay (lay (lay (lay t at (le 4 a)) (at + 4) (le 4 b)) (at + 8) (le 4 c)) (at + 12) (le 4 d) ≡ lay t at (fourWords a b c d)
-lay-fours t at a b c d h =
-    rw (
+-- words laid one after the other, each over what the one before left
+pub lay-fours : (t : List ℕ) (at a b c d : ℕ) {t₁ t₂ t₃ t₄ : List ℕ} → at + 12 ≤ length t → t₁ ≡ lay t at (le 4 a) → t₂ ≡ lay t₁ (at + 4) (le 4 b)
+    → t₃ ≡ lay t₂ (at + 8) (le 4 c) → t₄ ≡ lay t₃ (at + 12) (le 4 d) → t₄ ≡ lay t at (fourWords a b c d)
+lay-fours t at a b c d h e₁ e₂ e₃ e₄ =
+    e₄
+    ∙ rw (
+      e₃,
+      e₂,
+      e₁,
       lay-next t at 4 (le 4 a) (le 4 b) (le-length 4 a) (omega arith),
       lay-next t at 8 (le 4 a ++ le 4 b) (le 4 c) two (omega arith),
       lay-next t at 12 (le 4 a ++ le 4 b ++ le 4 c) (le 4 d) three h,

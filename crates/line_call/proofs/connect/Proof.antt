@@ -9,42 +9,50 @@ use Rattle.line_call.proofs.connect.Tie as tie
 number-word-requires : tie.Need-number-word-requires
 number-word-requires c κs = search needs
 
-enum-known-reason : tie.Need-enum-known-reason
-enum-known-reason c = search needs
+enum-known-number : tie.Need-enum-known-number
+enum-known-number c = search needs
 
-enum-known-seat : tie.Need-enum-known-seat
-enum-known-seat c = search needs
+enum-told : tie.Need-enum-told
+enum-told c = search needs
 
-number-word-requires-2 : tie.Need-number-word-requires-2
-number-word-requires-2 c κs = rw (c .before .seat .given .1) at (c .before .before .before .number-word .ensures .1)
-
-enum-known-reason-2 : tie.Need-enum-known-reason-2
-enum-known-reason-2 c = search needs
-
-enum-known-version : tie.Need-enum-known-version
-enum-known-version c = search needs
-
-whole-requires : tie.Need-whole-requires
-whole-requires c κs = (rw (c .before .version .given .1) at (c .before .before .before .number-word2 .ensures .1), omega arith)
+number-fault-requires : tie.Need-number-fault-requires
+number-fault-requires c κs = search needs
 
 returns : tie.Need-returns
 unfolding connectFrom
 returns c =
-    let e1 = sym (c .before .before .before .number-word .ensures .0) ∙ c .before .reason .given .1 in
-    (rw e1, omega arith)
+    let e = c .before .enum-told .given .1 in
+    let f = rw e at (c .number-fault .ensures) in
+    (rw (sym (c .before .before .before .number-word .ensures .0) ∙ e) f, rw f (omega arith))
+
+number-word-requires-2 : tie.Need-number-word-requires-2
+number-word-requires-2 c κs = rw (c .before .number .given .1) at (c .before .before .before .number-word .ensures .1)
+
+enum-known-further : tie.Need-enum-known-further
+enum-known-further c = search needs
+
+enum-told-2 : tie.Need-enum-told-2
+enum-told-2 c = search needs
+
+number-fault-requires-2 : tie.Need-number-fault-requires-2
+number-fault-requires-2 c κs = search needs
 
 returns-2 : tie.Need-returns-2
 unfolding connectFrom
 returns-2 c =
-    let e1 = sym (c .before .before .before .before .before .before .before .number-word .ensures .0) ∙ c .before .before .before .before .before .seat .given .1 in
-    let e2 = sym (c .before .before .before .number-word2 .ensures .0) ∙ c .before .reason2 .given .1 in
-    (rw (e1, e2), omega arith)
+    let e = c .before .enum-told2 .given .1 in
+    let f = rw e at (c .number-fault2 .ensures) in
+    let e1 = sym (c .before .before .before .before .before .before .before .number-word .ensures .0) ∙ c .before .before .before .before .before .number .given .1 in
+    (rw (e1, sym (c .before .before .before .number-word2 .ensures .0) ∙ e) f, rw f (omega arith))
+
+whole-requires : tie.Need-whole-requires
+whole-requires c κs = (rw (c .before .further .given .1) at (c .before .before .before .number-word2 .ensures .1), omega arith)
 
 returns-3 : tie.Need-returns-3
 unfolding connectFrom
 returns-3 c =
-    let e1 = sym (c .before .before .before .before .before .before .before .before .number-word .ensures .0) ∙ c .before .before .before .before .before .before .seat .given .1 in
-    let e2 = sym (c .before .before .before .before .number-word2 .ensures .0) ∙ c .before .before .version .given .1 in
+    let e1 = sym (c .before .before .before .before .before .before .before .before .number-word .ensures .0) ∙ c .before .before .before .before .before .before .number .given .1 in
+    let e2 = sym (c .before .before .before .before .number-word2 .ensures .0) ∙ c .before .before .further .given .1 in
     (rw (e1, e2) (c .whole .ensures .0), c .whole .ensures .1)
 
 pub connect-spec : {M : Type 1} → statement M
@@ -52,12 +60,14 @@ connect-spec =
     tie.close
     (tie.spec
     number-word-requires
-    enum-known-reason
-    enum-known-seat
-    number-word-requires-2
-    enum-known-reason-2
-    enum-known-version
-    whole-requires
+    enum-known-number
+    enum-told
+    number-fault-requires
     returns
+    number-word-requires-2
+    enum-known-further
+    enum-told-2
+    number-fault-requires-2
     returns-2
+    whole-requires
     returns-3)

@@ -9,42 +9,50 @@ use Rattle.line_call.proofs.open.Tie as tie
 number-word-requires : tie.Need-number-word-requires
 number-word-requires c κs = search needs
 
-enum-known-reason : tie.Need-enum-known-reason
-enum-known-reason c = search needs
+enum-known-number : tie.Need-enum-known-number
+enum-known-number c = search needs
 
-enum-known-seat : tie.Need-enum-known-seat
-enum-known-seat c = search needs
+enum-told : tie.Need-enum-told
+enum-told c = search needs
 
-hex-word-requires : tie.Need-hex-word-requires
-hex-word-requires c κs = rw (c .before .seat .given .1) at (c .before .before .before .number-word .ensures .1)
-
-enum-known-reason-2 : tie.Need-enum-known-reason-2
-enum-known-reason-2 c = search needs
-
-enum-known-first : tie.Need-enum-known-first
-enum-known-first c = search needs
-
-whole-requires : tie.Need-whole-requires
-whole-requires c κs = let h = rw (c .before .first .given .1) at (c .before .before .before .hex-word .ensures .1) in (h .2, (h .0, omega arith, h .3))
+number-fault-requires : tie.Need-number-fault-requires
+number-fault-requires c κs = search needs
 
 returns : tie.Need-returns
 unfolding openFrom
 returns c =
-    let e1 = sym (c .before .before .before .number-word .ensures .0) ∙ c .before .reason .given .1 in
-    (rw e1, omega arith)
+    let e = c .before .enum-told .given .1 in
+    let f = rw e at (c .number-fault .ensures) in
+    (rw (sym (c .before .before .before .number-word .ensures .0) ∙ e) f, rw f (omega arith))
+
+hex-word-requires : tie.Need-hex-word-requires
+hex-word-requires c κs = rw (c .before .number .given .1) at (c .before .before .before .number-word .ensures .1)
+
+enum-known-hex : tie.Need-enum-known-hex
+enum-known-hex c = search needs
+
+enum-told-2 : tie.Need-enum-told-2
+enum-told-2 c = search needs
+
+hex-fault-requires : tie.Need-hex-fault-requires
+hex-fault-requires c κs = search needs
 
 returns-2 : tie.Need-returns-2
 unfolding openFrom
 returns-2 c =
-    let e1 = sym (c .before .before .before .before .before .before .before .number-word .ensures .0) ∙ c .before .before .before .before .before .seat .given .1 in
-    let e2 = sym (c .before .before .before .hex-word .ensures .0) ∙ c .before .reason2 .given .1 in
-    (rw (e1, e2), omega arith)
+    let e = c .before .enum-told2 .given .1 in
+    let f = rw e at (c .hex-fault .ensures) in
+    let e1 = sym (c .before .before .before .before .before .before .before .number-word .ensures .0) ∙ c .before .before .before .before .before .number .given .1 in
+    (rw (e1, sym (c .before .before .before .hex-word .ensures .0) ∙ e) f, rw f (omega arith))
+
+whole-requires : tie.Need-whole-requires
+whole-requires c κs = let h = rw (c .before .hex .given .1) at (c .before .before .before .hex-word .ensures .1) in (h .2, (h .0, omega arith, h .3))
 
 returns-3 : tie.Need-returns-3
 unfolding openFrom
 returns-3 c =
-    let e1 = sym (c .before .before .before .before .before .before .before .before .number-word .ensures .0) ∙ c .before .before .before .before .before .before .seat .given .1 in
-    let e2 = sym (c .before .before .before .before .hex-word .ensures .0) ∙ c .before .before .first .given .1 in
+    let e1 = sym (c .before .before .before .before .before .before .before .before .number-word .ensures .0) ∙ c .before .before .before .before .before .before .number .given .1 in
+    let e2 = sym (c .before .before .before .before .hex-word .ensures .0) ∙ c .before .before .hex .given .1 in
     (rw (e1, e2) (c .whole .ensures .0), c .whole .ensures .1)
 
 pub open-spec : {M : Type 1} → statement M
@@ -52,12 +60,14 @@ open-spec =
     tie.close
     (tie.spec
     number-word-requires
-    enum-known-reason
-    enum-known-seat
-    hex-word-requires
-    enum-known-reason-2
-    enum-known-first
-    whole-requires
+    enum-known-number
+    enum-told
+    number-fault-requires
     returns
+    hex-word-requires
+    enum-known-hex
+    enum-told-2
+    hex-fault-requires
     returns-2
+    whole-requires
     returns-3)

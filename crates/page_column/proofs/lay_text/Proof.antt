@@ -26,10 +26,12 @@ same-length : tie.Need-same-length
 same-length c = search needs
 
 returns : tie.Need-returns
-returns c = let a = c .before .before .before .before .before .before .before .before .before .before .before .args in
-    let inside = units-length (a .catalogue .now) (a .text) (c .before .before .before .before .before .before .before .before .before .before .before .pre .0) in
-    let h = text-laid (a .catalogue .now) (a .text) (c .before .before .before .before .before .before .before .before .before .before .before .pre .0) (a .reply .now) (a .place) (λ i. omega (arith, c .before .before .before .before .before .before .before .before .before .shared-slice-known .given i)) (omega (arith, c .before .before .before .before .before .before .before .before .before .before .before .pre)) in
-    cc (c .before .before .before .before .before .before .before .before .units .ensures, c .before .before .before .before .before .before .lay-bytes .ensures, c .before .before .lay-half .ensures)
+returns c =
+    let e = c .before .before .before .before .before .before .before .before .before .before .before in
+    let a = e .args in
+    let inside = units-length (a .catalogue .now) (a .text) (e .pre .0) in
+    text-laid (a .catalogue .now) (a .text) (e .pre .0) (a .reply .now) (a .place) (λ i. omega (arith, c .before .before .before .before .before .before .before .before .before .shared-slice-known .given i)) (omega (arith, e .pre))
+    (c .before .before .before .before .before .before .before .before .units .ensures) (c .before .before .before .before .before .before .lay-bytes .ensures) (c .before .before .lay-half .ensures)
 
 pub lay-text-spec : {M : Type 1} → statement M
 lay-text-spec =

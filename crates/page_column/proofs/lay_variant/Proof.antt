@@ -2,6 +2,7 @@
 use borrow.Author.Needs.{needs}
 use Rattle.page_column.proofs.lay_variant.Statement.{statement}
 use Rattle.page_column.proofs.lay_variant.Tie as tie
+use mathlib.Core.Path.{_∙_}
 use native.Mathlib.Omega.{arith}
 use Rattle.wire.specs.Word.{le}
 use Rattle.wire.proofs.Lay.{lay-next}
@@ -20,8 +21,11 @@ same-length : tie.Need-same-length
 same-length c = search needs
 
 returns : tie.Need-returns
-returns c = let a = c .before .before .before .before .before .before .before .before .before .args in
-    let h = lay-next (a .reply .now) (a .at) 8 (le 8 (a .kind)) (le 8 (a .number)) (le-length 8 (a .kind)) (omega (arith, c .before .before .before .before .before .before .before .before .before .pre)) in cc
+returns c =
+    let e = c .before .before .before .before .before .before .before .before .before in
+    let a = e .args in
+    c .before .before .lay-long2 .ensures
+    ∙ rw (c .before .before .before .before .before .before .lay-long .ensures) (lay-next (a .reply .now) (a .at) 8 (le 8 (a .kind)) (le 8 (a .number)) (le-length 8 (a .kind)) (omega (arith, e .pre)))
 
 pub lay-variant-spec : {M : Type 1} → statement M
 lay-variant-spec =

@@ -2,18 +2,21 @@
 use borrow.Author.Needs.{needs}
 use Rattle.page_write.proofs.lay_rows.Statement.{statement}
 use Rattle.page_write.proofs.lay_rows.Tie as tie
-use Rattle.page.proofs.FillSteps.{rows-none, returned-start, returned-asked, returned-left, count-full, count-step, lay-step, lay-done, lay-start}
+use Rattle.page.proofs.FillSteps.{rows-none, returned-start, returned-asked, returned-left, count-full, count-step, counted-on, turned, lay-step, lay-done, lay-start}
 use Rattle.page.proofs.RowsBound.{column-in, there-at}
-use Rattle.page.specs.Rows.{returned, rowsSpans}
+use Rattle.catalogue.specs.CataloguePlaces.{rowSeen}
+use Rattle.page.specs.Rows.{blocks, returned, rowsSpans}
 use Rattle.page.specs.RowPlaces.{rowsAt}
 use Rattle.page.specs.declared.Sheet.{Sheet}
 use Rattle.wire.specs.Laid.{lays}
 use Rattle.bindings.specs.Column.{columnAt, columnsOf}
 use lib.ListN.{length, take, drop}
+use borrow.Author.Count.{falls}
 use native.Mathlib.Omega.{arith}
 use Prim.Native.Nat.{ℕ, _+_, _-_, _≤_}
 use mathlib.Core.List.{List}
-use mathlib.Core.Path.{_≡_, refl, _∙_}
+use mathlib.Core.Path.{_≡_, refl, ap, _∙_}
+use native.Mathlib.Numerals.{add-one}
 
 -- how many rows are sent in all, and how many of those that are left with so much room
 abbrev inAll : Sheet → List ℕ → List ℕ → List ℕ → List ℕ → ℕ
@@ -142,7 +145,7 @@ add-sent : tie.Need-add-sent Inv-loop μ-loop
 add-sent c = omega (arith, c .before .before .before .before .before .before .before .before .before .before .before .before .if1 .taken, c .struct-known3 .given)
 
 loop-less : tie.Need-loop-less Inv-loop μ-loop
-loop-less c = search needs
+loop-less c = falls _ _ (c .before .before .before .before .before .before .before .before .before .before .before .before .if1 .taken)
 
 loop-again : tie.Need-loop-again Inv-loop μ-loop
 loop-again c =
@@ -163,15 +166,16 @@ loop-again c =
     let at = found .place-of .result in
     let is = found .place-of .ensures in
     let need = a .sheet .width + sized .row-blocks .result in
-    let room = sized .row-blocks .ensures .0 in
+    let room = ap (λ (n : ℕ). a .sheet .width + n) {y = blocks columns (rowSeen s at)} (sized .row-blocks .ensures .0) in
     let place = laid .lay-row .ensures .placed in
-    let rest = laid .lay-row .result - (l .row + a .sheet .width) in (
+    let rest = laid .lay-row .result - (l .row + a .sheet .width) in
+    let after = turned (a .sheet .size) (l .row) (l .top) (a .sheet .width) (blocks columns (rowSeen s at)) need (laid .lay-row .result) (l .inv .1) (l .inv .2) room fits place in (
       laid .lay-row .kept .0 ∙ l .inv .0,
-      omega (arith, place, l .inv),
-      omega (arith, place, fits, l .inv, room),
-      omega (arith, test),
-      omega (arith, l .inv .4, count-step s places numbers (l .sent) at inside is (a .sheet .width) columns (a .sheet .asked) (l .top - l .row) need rest test (omega (arith, room)) fits (omega (arith, place, l .inv, fits, room))),
-      lay-step s places numbers (l .sent) at inside is (a .sheet .width) columns (a .sheet .asked) (l .top - l .row) need test (omega (arith, room)) fits (l .reply) (laid .lay-row .last .0) (a .sheet .base) (l .row) (l .top) (laid .lay-row .result) rest place (laid .lay-row .ensures .laid) (omega (arith, place, l .inv, fits, room)) ∙ l .inv .5,
+      after .below,
+      after .apart,
+      rw (add-one (l .sent)) test,
+      counted-on (l .sent) (stillSent (a .sheet) (a .records .now) s places numbers (l .sent + 1) rest) (l .inv .4) (count-step s places numbers (l .sent) at inside is (a .sheet .width) columns (a .sheet .asked) (l .top - l .row) need rest test room fits (after .left)),
+      lay-step s places numbers (l .sent) at inside is (a .sheet .width) columns (a .sheet .asked) (l .top - l .row) need test room fits (l .reply) (laid .lay-row .last .0) (a .sheet .base) (l .row) (l .top) (laid .lay-row .result) rest place (laid .lay-row .ensures .laid) (after .left) ∙ l .inv .5,
     )
 
 same-length-3 : tie.Need-same-length-3 Inv-loop μ-loop

@@ -40,7 +40,7 @@ sub-result c = search needs
 
 returns : tie.Need-returns
 unfolding checksum
-returns c = cc (rest 16 (c .before .before .before .before .args .message .now))
+returns c = rw (c .before .body-sum .ensures, rest 16 (c .before .before .before .before .args .message .now), c .word .ensures)
 
 pub checksum-of-spec : {M : Type 1} → statement M
 checksum-of-spec =

@@ -30,9 +30,11 @@ same-length : tie.Need-same-length
 same-length c = search needs
 
 returns : tie.Need-returns
-returns c = let s = c .before .before .before .before .before .before .before .before .before .before .before .before .before .before .before .before .before in
+returns c =
+    let s = c .before .before .before .before .before .before .before .before .before .before .before .before .before .before .before .before .before in
     let a = s .args in
-    let h = lay-fours (a .reply .now) (a .at) (a .a) (a .b) (a .c) (a .d) (omega (arith, s .pre)) in cc
+    lay-fours (a .reply .now) (a .at) (a .a) (a .b) (a .c) (a .d) (omega (arith, s .pre)) (c .before .before .before .before .before .before .before .before .before .before .before .before .before .before .lay-word .ensures) (c .before .before .before .before .before .before .before .before .before .before .lay-word2 .ensures)
+    (c .before .before .before .before .before .before .lay-word3 .ensures) (c .before .before .lay-word4 .ensures)
 
 pub lay-four-spec : {M : Type 1} → statement M
 lay-four-spec =

@@ -1,6 +1,6 @@
--- `fetch_serve::not_served` meets its contract: each part of the seek in turn. Assumes nothing.
-use Rattle.fetch_serve.proofs.not_served.Statement.{statement}
-use Rattle.fetch_serve.proofs.not_served.Tie as tie
+-- `fetch_request::not_served` meets its contract: each part of the seek in turn. Assumes nothing.
+use Rattle.fetch_request.proofs.not_served.Statement.{statement}
+use Rattle.fetch_request.proofs.not_served.Tie as tie
 use borrow.Author.Tests.{eq-eqb, ne-eqb}
 
 returns : tie.Need-returns

@@ -1,7 +1,7 @@
--- `fetch_serve::judge` meets its contract: each cause in turn. Assumes nothing.
+-- `fetch_request::judge` meets its contract: each cause in turn. Assumes nothing.
 use borrow.Author.Needs.{needs}
-use Rattle.fetch_serve.proofs.judge.Statement.{statement}
-use Rattle.fetch_serve.proofs.judge.Tie as tie
+use Rattle.fetch_request.proofs.judge.Statement.{statement}
+use Rattle.fetch_request.proofs.judge.Tie as tie
 use Rattle.fetch.proofs.Judging.{no-bindings, other-width, unserved, all-served}
 use mathlib.Core.Path.{sym, _∙_}
 

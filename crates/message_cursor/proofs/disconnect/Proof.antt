@@ -1,7 +1,7 @@
--- `message_close::disconnect` meets its contract: a body is refused; without one all words of the seat are cleared. Assumes nothing.
+-- `message_cursor::disconnect` meets its contract: a body is refused; without one all words of the seat are cleared. Assumes nothing.
 use borrow.Author.Needs.{needs}
-use Rattle.message_close.proofs.disconnect.Statement.{statement}
-use Rattle.message_close.proofs.disconnect.Tie as tie
+use Rattle.message_cursor.proofs.disconnect.Statement.{statement}
+use Rattle.message_cursor.proofs.disconnect.Tie as tie
 use native.Mathlib.Omega.{arith}
 use Rattle.message.proofs.Answering.{refused-by}
 use Rattle.message.proofs.Bodies.{body-there, disconnected}

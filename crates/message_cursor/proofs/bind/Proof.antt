@@ -1,7 +1,7 @@
--- `message_answer::bind` meets its contract: the body is read to values, the handle and the bindings are judged, then the cursor is bound. Assumes nothing.
+-- `message_cursor::bind` meets its contract: the body is read to values, the handle and the bindings are judged, then the cursor is bound. Assumes nothing.
 use borrow.Author.Needs.{needs}
-use Rattle.message_answer.proofs.bind.Statement.{statement}
-use Rattle.message_answer.proofs.bind.Tie as tie
+use Rattle.message_cursor.proofs.bind.Statement.{statement}
+use Rattle.message_cursor.proofs.bind.Tie as tie
 use mathlib.Core.Path.{sym, _∙_}
 use native.Mathlib.Omega.{arith}
 use Rattle.message.proofs.Answering.{refused-by}

@@ -1,6 +1,6 @@
--- `message_answer::first_of` meets its contract: the tests stand in the order of the causes. Assumes nothing.
-use Rattle.message_answer.proofs.first_of.Statement.{statement}
-use Rattle.message_answer.proofs.first_of.Tie as tie
+-- `message_cursor::first_of` meets its contract: the tests stand in the order of the causes. Assumes nothing.
+use Rattle.message_cursor.proofs.first_of.Statement.{statement}
+use Rattle.message_cursor.proofs.first_of.Tie as tie
 use borrow.Author.Tests.{not-true, not-false}
 use Rattle.refusal.specs.Refusal.{firstCause}
 

@@ -1,7 +1,7 @@
--- `message_close::close` meets its contract: the cursor's part of the seat's words is cleared. Assumes nothing.
+-- `message_cursor::close` meets its contract: the cursor's part of the seat's words is cleared. Assumes nothing.
 use borrow.Author.Needs.{needs}
-use Rattle.message_close.proofs.close.Statement.{statement}
-use Rattle.message_close.proofs.close.Tie as tie
+use Rattle.message_cursor.proofs.close.Statement.{statement}
+use Rattle.message_cursor.proofs.close.Tie as tie
 use mathlib.Core.Path.{ap, ap₂, _∙_}
 use Prim.Native.Nat.{ℕ, _+_, _≤_}
 use native.Mathlib.Omega.{arith}

@@ -1,7 +1,7 @@
--- `message_close::free` meets its contract: the body's size and the handle are judged, then the cursor's part is cleared. Assumes nothing.
+-- `message_cursor::free` meets its contract: the body's size and the handle are judged, then the cursor's part is cleared. Assumes nothing.
 use borrow.Author.Needs.{needs}
-use Rattle.message_close.proofs.free.Statement.{statement}
-use Rattle.message_close.proofs.free.Tie as tie
+use Rattle.message_cursor.proofs.free.Statement.{statement}
+use Rattle.message_cursor.proofs.free.Tie as tie
 use mathlib.Core.Path.{sym, ap, _∙_}
 use Prim.Native.Nat.{ℕ}
 use native.Mathlib.Omega.{arith}

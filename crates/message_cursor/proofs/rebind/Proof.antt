@@ -1,7 +1,7 @@
--- `message_answer::rebind` meets its contract: the cursor's part of the seat's words is lent to be bound. Assumes nothing.
+-- `message_cursor::rebind` meets its contract: the cursor's part of the seat's words is lent to be bound. Assumes nothing.
 use borrow.Author.Needs.{needs}
-use Rattle.message_answer.proofs.rebind.Statement.{statement}
-use Rattle.message_answer.proofs.rebind.Tie as tie
+use Rattle.message_cursor.proofs.rebind.Statement.{statement}
+use Rattle.message_cursor.proofs.rebind.Tie as tie
 use mathlib.Core.Path.{ap, _∙_}
 use Prim.Native.Nat.{ℕ}
 use native.Mathlib.Omega.{arith}
