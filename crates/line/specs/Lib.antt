@@ -6,4 +6,5 @@ pub mod Answer
 pub mod Kept
 pub mod CallReady
 pub mod PlaceReady
+pub mod RunTold
 pub mod DigitsTold

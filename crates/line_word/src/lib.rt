@@ -1,9 +1,10 @@
 // The words of a line, its comment and its end; decimal numbers and hex digits.
 ghost use mathlib.Core.Path.{_≡_};
 ghost use mathlib.Core.List.{_++_};
-ghost use Prim.Native.Nat.{_/_, _≤_, _+_};
+ghost use Prim.Native.Nat.{_/_, _≤_};
 ghost use lib.ListN.{length, drop};
 ghost use Rattle.line.specs.Digits.{decimal, told, hexDigit, isDash, isHex, pairByte, hexBytes};
+ghost use Rattle.line.specs.RunTold.{Passed};
 ghost use Rattle.line.specs.Runs.{run, unlike, inLine, inCall, separates, inWord, separators, sameBytes};
 use line::Spelled;
 
@@ -126,8 +127,7 @@ fn separates(byte: u8) -> bool
 // The place of the first such byte from a place on, or the end.
 fn until(bytes: &[u8], at: usize, sign: u8) -> usize
     requires { ⌜ at ≤ length (now bytes) ⌝ }
-    ensures { λ r. ⌜ (r ≡ at + run (unlike sign) (drop at (now (bytes .entry)))) × (at ≤ r)
-        × (r ≤ length (now (bytes .entry))) ⌝ }
+    ensures { λ r. ⌜ Passed (unlike sign) (now (bytes .entry)) at r ⌝ }
 {
     let mut i = at;
     while i < bytes.len() {
@@ -142,7 +142,7 @@ fn until(bytes: &[u8], at: usize, sign: u8) -> usize
 // The place of the first line feed from a place on, or the end.
 pub fn before_feed(chunk: &[u8], at: usize) -> usize
     requires { ⌜ at ≤ length (now chunk) ⌝ }
-    ensures { λ r. ⌜ (r ≡ at + run inLine (drop at (now (chunk .entry)))) × (at ≤ r) × (r ≤ length (now (chunk .entry))) ⌝ }
+    ensures { λ r. ⌜ Passed inLine (now (chunk .entry)) at r ⌝ }
 {
     until(chunk, at, FEED)
 }
@@ -167,8 +167,7 @@ fn is_kind(byte: u8, separating: bool) -> bool
 // The place of the first byte from a place on that is of the other kind, or the end.
 fn past(line: &[u8], at: usize, separating: bool) -> usize
     requires { ⌜ at ≤ length (now line) ⌝ }
-    ensures { λ r. ⌜ (r ≡ at + run (separators separating) (drop at (now (line .entry)))) × (at ≤ r)
-        × (r ≤ length (now (line .entry))) ⌝ }
+    ensures { λ r. ⌜ Passed (separators separating) (now (line .entry)) at r ⌝ }
 {
     let mut i = at;
     while i < line.len() {
@@ -183,7 +182,7 @@ fn past(line: &[u8], at: usize, separating: bool) -> usize
 // The place of the first byte from a place on that is no separator.
 pub fn after_separators(line: &[u8], at: usize) -> usize
     requires { ⌜ at ≤ length (now line) ⌝ }
-    ensures { λ r. ⌜ (r ≡ at + run separates (drop at (now (line .entry)))) × (at ≤ r) × (r ≤ length (now (line .entry))) ⌝ }
+    ensures { λ r. ⌜ Passed separates (now (line .entry)) at r ⌝ }
 {
     past(line, at, true)
 }
@@ -191,7 +190,7 @@ pub fn after_separators(line: &[u8], at: usize) -> usize
 // The place of the first separator from a place on.
 pub fn after_word(line: &[u8], at: usize) -> usize
     requires { ⌜ at ≤ length (now line) ⌝ }
-    ensures { λ r. ⌜ (r ≡ at + run inWord (drop at (now (line .entry)))) × (at ≤ r) × (r ≤ length (now (line .entry))) ⌝ }
+    ensures { λ r. ⌜ Passed inWord (now (line .entry)) at r ⌝ }
 {
     past(line, at, false)
 }

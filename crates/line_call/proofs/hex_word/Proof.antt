@@ -22,7 +22,7 @@ returns c =
     let end = w .after-word .result in
     let p = w .before .after-separators .ensures in
     let q = w .after-word .ensures in
-    (sym (hex-missing s (a .args .at) start end (p .0) (q .0) (a .args .most) (c .if1 .taken)), omega arith)
+    (sym (hex-missing s (a .args .at) start end (p .place) (q .place) (a .args .most) (c .if1 .taken)), omega arith)
 
 sub-is-dash : tie.Need-sub-is-dash
 sub-is-dash c = search needs
@@ -45,7 +45,7 @@ returns-2 c =
     let end = w .after-word .result in
     let p = w .before .after-separators .ensures in
     let q = w .after-word .ensures in
-    (sym (hex-dash s (a .args .at) start end (p .0) (q .0) (a .args .most) (c .before .before .before .if1 .left) (sym (c .before .is-dash .ensures) ∙ c .if2 .taken)), (omega arith, omega arith, q .2, omega arith))
+    (sym (hex-dash s (a .args .at) start end (p .place) (q .place) (a .args .most) (c .before .before .before .if1 .left) (sym (c .before .is-dash .ensures) ∙ c .if2 .taken)), (omega arith, omega arith, q .inside, omega arith))
 
 sub-is-hex : tie.Need-sub-is-hex
 sub-is-hex c = search needs
@@ -69,7 +69,7 @@ returns-3 c =
     let p = w .before .after-separators .ensures in
     let q = w .after-word .ensures in
     let d = c .before .before .before in
-    (sym (hex-bad s (a .args .at) start end (p .0) (q .0) (a .args .most) (d .before .before .before .if1 .left) (sym (d .before .is-dash .ensures) ∙ d .if2 .left) (sym (c .before .is-hex .ensures) ∙ not-true _ (c .if3 .taken))), omega arith)
+    (sym (hex-bad s (a .args .at) start end (p .place) (q .place) (a .args .most) (d .before .before .before .if1 .left) (sym (d .before .is-dash .ensures) ∙ d .if2 .left) (sym (c .before .is-hex .ensures) ∙ not-true _ (c .if3 .taken))), omega arith)
 
 sub-if4 : tie.Need-sub-if4
 sub-if4 c = search needs
@@ -84,7 +84,7 @@ returns-4 c =
     let p = w .before .after-separators .ensures in
     let q = w .after-word .ensures in
     let d = c .before .before .before .before in
-    (sym (hex-long s (a .args .at) start end (p .0) (q .0) (a .args .most) (d .before .before .before .if1 .left) (sym (d .before .is-dash .ensures) ∙ d .if2 .left) (sym (c .before .before .is-hex .ensures) ∙ not-false _ (c .before .if3 .left)) (omega arith)), omega arith)
+    (sym (hex-long s (a .args .at) start end (p .place) (q .place) (a .args .most) (d .before .before .before .if1 .left) (sym (d .before .is-dash .ensures) ∙ d .if2 .left) (sym (c .before .before .is-hex .ensures) ∙ not-false _ (c .before .if3 .left)) (omega arith)), omega arith)
 
 returns-5 : tie.Need-returns-5
 returns-5 c =
@@ -96,7 +96,7 @@ returns-5 c =
     let p = w .before .after-separators .ensures in
     let q = w .after-word .ensures in
     let d = c .before .before .before .before in
-    (sym (hex-found s (a .args .at) start end (p .0) (q .0) (a .args .most) (d .before .before .before .if1 .left) (sym (d .before .is-dash .ensures) ∙ d .if2 .left) (sym (c .before .before .is-hex .ensures) ∙ not-false _ (c .before .if3 .left)) (omega arith)), (q .1, omega arith, q .2, omega arith))
+    (sym (hex-found s (a .args .at) start end (p .place) (q .place) (a .args .most) (d .before .before .before .if1 .left) (sym (d .before .is-dash .ensures) ∙ d .if2 .left) (sym (c .before .before .is-hex .ensures) ∙ not-false _ (c .before .if3 .left)) (omega arith)), (q .onward, omega arith, q .inside, omega arith))
 
 pub hex-word-spec : {M : Type 1} → statement M
 hex-word-spec =

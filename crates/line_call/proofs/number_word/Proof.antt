@@ -23,7 +23,7 @@ returns c =
     let end = w .after-word .result in
     let p = w .before .after-separators .ensures in
     let q = w .after-word .ensures in
-    (sym (number-missing s (a .args .at) start end (p .0) (q .0) (c .if1 .taken)), omega arith)
+    (sym (number-missing s (a .args .at) start end (p .place) (q .place) (c .if1 .taken)), omega arith)
 
 sub-decimal : tie.Need-sub-decimal
 sub-decimal c = search needs
@@ -53,7 +53,7 @@ returns-2 c =
     let p = w .before .after-separators .ensures in
     let q = w .after-word .ensures in
     let d = c .before .before .decimal in (
-      sym (number-found s (a .args .at) start end (p .0) (q .0) (c .before .before .before .before .if1 .left)
+      sym (number-found s (a .args .at) start end (p .place) (q .place) (c .before .before .before .before .if1 .left)
           ∙ told-bad (decimal (between start end s)) end (sym (d .ensures) ∙ c .enum-told .given .1)),
       omega arith,
     )
@@ -68,9 +68,9 @@ returns-3 c =
     let p = w .before .after-separators .ensures in
     let q = w .after-word .ensures in
     let d = c .before .before .before .decimal in (
-      sym (number-found s (a .args .at) start end (p .0) (q .0) (c .before .before .before .before .before .if1 .left)
+      sym (number-found s (a .args .at) start end (p .place) (q .place) (c .before .before .before .before .before .if1 .left)
           ∙ told-is (decimal (between start end s)) end _ (sym (d .ensures) ∙ c .before .value .given .1)),
-      q .2,
+      q .inside,
     )
 
 pub number-word-spec : {M : Type 1} → statement M

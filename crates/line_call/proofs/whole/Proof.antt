@@ -13,13 +13,13 @@ returns : tie.Need-returns
 returns c =
     let a = c .before .before .before .args in
     let w = c .before .after-separators in
-    (rw (← (w .ensures .0), lt-ltb (w .result) (length (a .line .now)) (omega arith)), omega arith)
+    (rw (← (w .ensures .place), lt-ltb (w .result) (length (a .line .now)) (omega arith)), omega arith)
 
 returns-2 : tie.Need-returns-2
 returns-2 c =
     let a = c .before .before .before .args in
     let w = c .before .after-separators in
-    (rw (← (w .ensures .0), le-ltb (w .result) (length (a .line .now)) (omega arith)), c .before .before .before .pre .1)
+    (rw (← (w .ensures .place), le-ltb (w .result) (length (a .line .now)) (omega arith)), c .before .before .before .pre .1)
 
 pub whole-spec : {M : Type 1} → statement M
 whole-spec = tie.close (tie.spec after-separators-requires returns returns-2)
