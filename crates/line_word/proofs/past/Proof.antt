@@ -30,7 +30,11 @@ returns c =
     let l = c .before .before .before .before .loop in
     let a = c .before .before .before .before .before .before .args in
     let s = a .line .now in
-    record { place = sym (l .inv .2 ∙ run-stops (separators (a .separating)) s (l .i) (omega arith) (sym (c .before .is-kind .ensures) ∙ not-true _ (c .if1 .taken))); onward = l .inv .0; inside = l .inv .1 }
+    record {
+      place = sym (l .inv .2 ∙ run-stops (separators (a .separating)) s (l .i) (omega arith) (sym (c .before .is-kind .ensures) ∙ not-true _ (c .if1 .taken)));
+      onward = l .inv .0;
+      inside = l .inv .1;
+    }
 
 add-i : tie.Need-add-i Inv-loop μ-loop
 add-i c = search needs
@@ -48,7 +52,11 @@ loop-again c =
 returns-2 : tie.Need-returns-2 Inv-loop μ-loop
 returns-2 c =
     let l = c .before .loop in
-    record { place = sym (l .inv .2 ∙ run-ends (separators (c .before .before .before .args .separating)) (c .before .before .before .args .line .now) (l .i) (omega arith)); onward = l .inv .0; inside = l .inv .1 }
+    record {
+      place = sym (l .inv .2 ∙ run-ends (separators (c .before .before .before .args .separating)) (c .before .before .before .args .line .now) (l .i) (omega arith));
+      onward = l .inv .0;
+      inside = l .inv .1;
+    }
 
 pub past-spec : {M : Type 1} → statement M
 past-spec =

@@ -28,7 +28,11 @@ returns c =
     let l = c .before .before .before .loop in
     let a = c .before .before .before .before .args in
     let s = a .bytes .now in
-    record { place = sym (l .inv .2 ∙ run-stops (unlike (a .sign)) s (l .i) (omega arith) (ap not (eq-eqb _ _ (c .if1 .taken)))); onward = l .inv .0; inside = l .inv .1 }
+    record {
+      place = sym (l .inv .2 ∙ run-stops (unlike (a .sign)) s (l .i) (omega arith) (ap not (eq-eqb _ _ (c .if1 .taken))));
+      onward = l .inv .0;
+      inside = l .inv .1;
+    }
 
 add-i : tie.Need-add-i Inv-loop μ-loop
 add-i c = search needs
@@ -46,7 +50,11 @@ loop-again c =
 returns-2 : tie.Need-returns-2 Inv-loop μ-loop
 returns-2 c =
     let l = c .before .loop in
-    record { place = sym (l .inv .2 ∙ run-ends (unlike (c .before .before .args .sign)) (c .before .before .args .bytes .now) (l .i) (omega arith)); onward = l .inv .0; inside = l .inv .1 }
+    record {
+      place = sym (l .inv .2 ∙ run-ends (unlike (c .before .before .args .sign)) (c .before .before .args .bytes .now) (l .i) (omega arith));
+      onward = l .inv .0;
+      inside = l .inv .1;
+    }
 
 pub until-spec : {M : Type 1} → statement M
 until-spec =
