@@ -43,7 +43,7 @@ typedef struct {
    leaves the table as it was. The first that applies is given:
 
     1  the seat is above 7
-    2  the table is malformed: another length, or words that no calls leave
+    2  the table is malformed: another length, or words that break a rule of docs/TABLE.md
     3  the catalogue is malformed, or an open cursor has a row that it doesn't have
     4  the reply buffer is under 16,384 bytes (messages only)
     5  the message is under 16 or over 16,384 bytes

@@ -30,7 +30,7 @@ use Rattle.bindings.specs.BindingsPlaces.{columnsAt, columnsOn, bindings
 use Rattle.lists.specs.Options.{andThen}
 
 -- what the parser gives is what the reader gives, with the bytes from the place after it, which lies in the message
-abbrev Agree : {A : Type 0} → List ℕ → Parsed A → Option (A × ℕ) → Type 0
+abbrev pub Agree : {A : Type 0} → List ℕ → Parsed A → Option (A × ℕ) → Type 0
 Agree m p none = p ≡ none
 Agree m p (some r) = (p ≡ some (r .0, r .1, drop (r .1) m)) × (r .1 ≤ length m)
 
@@ -53,7 +53,7 @@ module _ (n : ℕ) (m : List ℕ) (at : ℕ) (h : at ≤ length m) where
   bytes-past : length m < at + n → bytes n at (drop at m) ≡ none
   bytes-past l = rw (lt-leb n (length (drop at m)) (omega (arith, length-drop at m)))
 
-  number-agrees : Agree m (numeral n at (drop at m)) (ofNumber (numberOn n m at))
+  pub number-agrees : Agree m (numeral n at (drop at m)) (ofNumber (numberOn n m at))
   unfolding numberOn numberAt
   number-agrees =
       by-test (leb (at + n) (length m))
@@ -75,7 +75,7 @@ module _ (n : ℕ) (m : List ℕ) (at : ℕ) (h : at ≤ length m) where
       (λ q. rw (bytes-there (leb-true (at + n) (length m) q)) (f (number (take n (drop at m))) (leb-true (at + n) (length m) q)))
       (λ q. rw (bytes-past (leb-false (at + n) (length m) q)))
 
-flag-agrees : (m : List ℕ) (at : ℕ) → Agree m (flag at (drop at m)) (ofNumber (flagOn m at))
+pub flag-agrees : (m : List ℕ) (at : ℕ) → Agree m (flag at (drop at m)) (ofNumber (flagOn m at))
 unfolding flag flagOn
 flag-agrees m at =
     by-test (leb (at + 1) (length m))
@@ -127,7 +127,7 @@ zero-bytes (suc n) at (b ∷ s) =
     one-more : at + 1 + n ≡ at + suc n
     one-more = omega arith
 
-pad-agrees : (unit : ℕ) (m : List ℕ) (at : ℕ) → at ≤ length m → Agree m (padded unit at (drop at m)) (ofPlace (paddedOn unit m at))
+pub pad-agrees : (unit : ℕ) (m : List ℕ) (at : ℕ) → at ≤ length m → Agree m (padded unit at (drop at m)) (ofPlace (paddedOn unit m at))
 unfolding paddedOn zeroAt
 pad-agrees unit m at h =
     rw (zero-bytes (padding unit at) at (drop at m), same, drop-drop (padding unit at) at m)
@@ -175,7 +175,7 @@ module _ (m : List ℕ) where
       every-like setSize (λ i. eqb (getD (take setSize (drop at m)) (0 + i) 0) (setFirst + i)) (λ i. eqb (getD m (at + i) 0) (setFirst + i)) (λ k l.
       rw (zero-add k, getD-take setSize (drop at m) k 0 l, getD-drop at m k 0))
 
-  property-agrees : (at : ℕ) → at ≤ length m → Agree m (property at (drop at m)) (ofNumber (propertyOn m at))
+  pub property-agrees : (at : ℕ) → at ≤ length m → Agree m (property at (drop at m)) (ofNumber (propertyOn m at))
   unfolding property propertyOn numberAt
   property-agrees at h =
       by-test (leb (at + specSize) (length m))

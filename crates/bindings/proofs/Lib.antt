@@ -8,5 +8,7 @@ pub mod Records
 pub mod Bindings
 pub mod Told
 pub mod Agree
+pub mod RoundTrip
 pub mod ReadJudged
 pub mod Vectors
+pub mod Numbered

@@ -46,12 +46,12 @@ pub either-way : (a b : ℕ) → (a ≡ b → ⊥) → (a < b) ⊎ (b < a)
 either-way a b d = by-test (ltb a b) (λ q. inl (ltb-true a b q)) (λ q. inr (omega (arith, ltb-false a b q)))
 
 -- the parts of the definition
-fit-parts : (width : ℕ) (columns : List Column) → fit width columns ≡ true
+pub fit-parts : (width : ℕ) (columns : List Column) → fit width columns ≡ true
     → (within 1 columnsMost (length columns) ≡ true) × (within 1 rowMost width ≡ true) × (columnsFit width columns ≡ true)
 unfolding fit
 fit-parts width columns e = all-three (within 1 columnsMost (length columns)) (within 1 rowMost width) (columnsFit width columns) e
 
-columns-parts : (width : ℕ) (columns : List Column) → columnsFit width columns ≡ true
+pub columns-parts : (width : ℕ) (columns : List Column) → columnsFit width columns ≡ true
     → (every columnFits columns ≡ true) × (pairwise differ columns ≡ true) × (both (every (inside width) (spansOf columns)) (pairwise apart (spansOf columns)) ≡ true)
 unfolding columnsFit
 columns-parts width columns e =

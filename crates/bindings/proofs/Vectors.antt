@@ -10,13 +10,21 @@ use Rattle.bindings.specs.declared.Column.{Column}
 use Rattle.lists.specs.Every.{every, pairwise}
 use Rattle.bindings.specs.Fit.{spansOf, columnsFit, fit}
 use Rattle.bindings.specs.Plain.{zeroBytes, flag, spot, value, property, column, columns, bindings}
-use Rattle.wire.specs.PropertySpec.{setOurs}
-use Rattle.wire.specs.Examples.{wordsOf, spec}
+use Rattle.bindings.specs.Writer.{Foreign, writeSpot, writeValue, writeProperty, writeColumn, writeColumns, write}
+use Rattle.wire.specs.PropertySpec.{setOurs, spec}
+use Rattle.wire.specs.Examples.{wordsOf}
 use Rattle.bindings.specs.Examples.{caseColumns, caseBindings}
 
 pub whole-case : (bindings caseBindings ≡ some (record { handle = 1; width = 24; columns = caseColumns })) × (fit 24 caseColumns ≡ true)
 unfolding bindings columns column property value spot flag zeroBytes setOurs everyBelow number le fit columnsFit every pairwise spansOf
 whole-case = (refl, refl)
+
+-- and the writer writes that message
+pub case-written : (others : ℕ → Foreign)
+    → write (record { header = wordsOf (0xD0 ∷ 0 ∷ 0 ∷ 0 ∷ []); dummy = 0; foreign = others }) (record { handle = 1; width = 24; columns = caseColumns })
+    ≡ caseBindings
+unfolding writeColumns writeColumn writeProperty writeValue writeSpot le
+case-written others = refl
 
 -- a label with its status alone, whose length flag stands at an odd place, then a key of four bytes
 pub two : ℕ → List ℕ → List ℕ

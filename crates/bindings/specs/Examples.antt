@@ -2,7 +2,8 @@
 use mathlib.Core.List.{List, [], _∷_, _++_}
 use Prim.Native.Nat.{ℕ}
 use Rattle.wire.specs.Word.{le}
-use Rattle.wire.specs.Examples.{wordsOf, spec}
+use Rattle.wire.specs.Examples.{wordsOf}
+use Rattle.wire.specs.PropertySpec.{spec}
 use Rattle.bindings.specs.declared.Column.{Column}
 
 abbrev pub caseColumns : List Column

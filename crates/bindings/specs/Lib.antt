@@ -2,6 +2,7 @@ pub mod Column
 pub mod Fit
 pub mod Sound
 pub mod Plain
+pub mod Writer
 pub mod Examples
 pub mod SpanPlaces
 pub mod ColumnPlaces

@@ -5,8 +5,9 @@ use mathlib.Core.List.{List}
 use Prim.Native.Nat.{ℕ, _≤_, _<_}
 use native.Mathlib.Omega.{arith}
 use borrow.Author.Tests.{lt-ltb, le-ltb, ltb-false, eq-eqb, ne-eqb}
-use lib.Dec.{ltb}
+use lib.Dec.{ltb, eqb}
 use lib.ListN.{length-map}
+use Rattle.lists.specs.Below.{pick}
 use Rattle.lists.proofs.Below.{by-test}
 use Rattle.catalogue.specs.Plain.{catalogue}
 use Rattle.catalogue.specs.CataloguePlaces.{checked, places, noted, rowSeen}
@@ -16,7 +17,8 @@ use Rattle.table.specs.Well.{tableWell, tableBelow}
 use Rattle.refusal.specs.Refusal.{firstCause}
 use Rattle.refusal.proofs.First.{Numbered}
 use Rattle.call.specs.Step.{Sources, sourcesOf, rowsHold, judging}
-use Rattle.call.specs.JudgementTold.{Judgement}
+use Rattle.call.specs.JudgementTold.{judgedBy, judgedWith, placedWith, Judgement}
+use Rattle.call.specs.declared.Judged.{Judged}
 
 pub judging-numbered : (src : Sources) (t : List ℕ) (seat : ℕ) → Numbered (judging src t seat)
 judging-numbered src t seat = ((λ e. omega arith), ((λ e. omega arith), ((λ e. omega arith), tt)))
@@ -69,11 +71,18 @@ passes src t seat e =
     (λ r. absurd (let z : 3 ≡ 0 = rw (q, w, r) at e in omega arith)))
     (λ w. absurd (let z : 2 ≡ 0 = rw (q, w) at e in omega arith)))
 
--- the judgement of a call that is refused, and of one that is not
-pub judged-by : (t s : List ℕ) (seat n : ℕ) (held found : List ℕ) → firstCause (judging (sourcesOf s) t seat) ≡ n → (n ≡ 0 → ⊥)
-    → Judgement t s seat (record { refusal = n; rows = 0 }) held found
-judged-by t s seat n held found e z = record { refused = sym e; rows = λ w. absurd (z w); placed = λ w. absurd (z w) }
+-- the judgement by the refusal that was found
+pub judged-is : (t s : List ℕ) (seat n rows : ℕ) (held found : List ℕ) → judgedBy t s seat ≡ n → rows ≡ pick (eqb n 0) (checked s .rows) 0 → found ≡ placedWith n s held
+    → Judgement t s seat (record { refusal = n; rows = rows }) held found
+judged-is t s seat n rows held found e r f = record { answered = rw (e, r); placed = rw e f }
 
-pub judged-none : (t s : List ℕ) (seat rows : ℕ) (held found : List ℕ) → firstCause (judging (sourcesOf s) t seat) ≡ 0 → rows ≡ checked s .rows → found ≡ noted s held
-    → Judgement t s seat (record { refusal = 0; rows = rows }) held found
-judged-none t s seat rows held found e r f = record { refused = sym e; rows = λ w. r; placed = λ w. f }
+-- what a judgement says: its refusal, and where there is none, the row count and the place of each row
+module _ {t s held found : List ℕ} {seat : ℕ} {r : Judged} (j : Judgement t s seat r held found) where
+  pub refused-by : r .refusal ≡ judgedBy t s seat
+  refused-by = ap (λ (k : Judged). k .refusal) (j .answered)
+
+  pub rows-told : r .refusal ≡ 0 → r .rows ≡ checked s .rows
+  rows-told z = ap (λ (k : Judged). k .rows) (j .answered) ∙ ap (λ (n : ℕ). judgedWith n s .rows) (sym refused-by ∙ z)
+
+  pub places-told : r .refusal ≡ 0 → found ≡ noted s held
+  places-told z = j .placed ∙ ap (λ (n : ℕ). placedWith n s held) (sym refused-by ∙ z)

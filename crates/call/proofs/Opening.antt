@@ -29,7 +29,7 @@ use Rattle.query.specs.Open.{freeHandle, openCauses, openedOn}
 use Rattle.call.specs.Step.{Sources, Keeps, rowsHold, judging, seatHeld, seated, openDone, openStep}
 use Rattle.call.specs.JudgementTold.{Judgement}
 use Rattle.call.specs.declared.Judged.{Judged}
-use Rattle.call.proofs.Causes.{judging-numbered, no-rows}
+use Rattle.call.proofs.Causes.{judging-numbered, no-rows, rows-told, places-told}
 use Rattle.call.proofs.Seating.{words-is, seat-ok}
 
 module _ (src : Sources) (t : List ℕ) (seat : ℕ) (tree : List ℕ) where
@@ -67,7 +67,7 @@ rows-accepted s t e =
 pub places-noted : (s t held found : List ℕ) (seat : ℕ) (r : Judged) → Judgement t s seat r held found → r .refusal ≡ 0 → rowsHold (catalogue s) t ≡ true
     → rowsMost ≤ length held → NotedReady s (r .rows) found
 places-noted s t held found seat r j z h l =
-    subst (λ (n : ℕ). NotedReady s n found) (sym (j .rows z)) (noted-by-check s held found (checked s) refl (rows-accepted s t h) (j .placed z) l)
+    subst (λ (n : ℕ). NotedReady s n found) (sym (rows-told j z)) (noted-by-check s held found (checked s) refl (rows-accepted s t h) (places-told j z) l)
 
 pub closed : (o : Option Cursor) → isOpen o ≡ false → o ≡ none
 closed none e = refl

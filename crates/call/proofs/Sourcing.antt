@@ -23,6 +23,7 @@ use Rattle.message.specs.AnswerReady.{SourcesReady}
 use Rattle.call.specs.Step.{rowsHold, seatHeld}
 use Rattle.call.specs.JudgementTold.{Judgement}
 use Rattle.call.specs.declared.Judged.{Judged}
+use Rattle.call.proofs.Causes.{places-told}
 use Rattle.call.proofs.Passing.{seat-below}
 
 -- a member of a list of rows seen at places
@@ -60,4 +61,4 @@ sourced s t seat rows held l h n =
 -- the array of places keeps its length
 pub noted-length : (t s : List ℕ) (seat : ℕ) (r : Judged) (held found : List ℕ) → Judgement t s seat r held found → r .refusal ≡ 0 → length held ≡ 1024
     → length found ≡ 1024
-noted-length t s seat r held found j z l = ap length (j .placed z) ∙ length-sets held 0 (places s) ∙ l
+noted-length t s seat r held found j z l = ap length (places-told j z) ∙ length-sets held 0 (places s) ∙ l

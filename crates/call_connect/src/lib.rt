@@ -11,7 +11,7 @@ pub fn connect(table: &mut [u32], catalogue: &[u8], seat: Seat, version: u32) ->
 {
     let k = seat.0;
     let mut places = [0u32; catalogue::ROWS_MOST];
-    let judged = call_judge::judge(table, catalogue, k, &mut places);
+    let judged = call_judge::judge(table, catalogue, seat, &mut places);
     let refusal = judged.refusal;
     if refusal != 0 {
         return refusal;

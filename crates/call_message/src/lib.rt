@@ -18,7 +18,7 @@ pub fn message(
         (r .refusal) 0 (r .count) (now (table .exit)) (now (reply .entry)) (now (reply .exit)) ⌝ }
 {
     let mut places = [0u32; catalogue::ROWS_MOST];
-    let judged = call_judge::judge(table, catalogue, seat.0, &mut places);
+    let judged = call_judge::judge(table, catalogue, seat, &mut places);
     let refusal = judged.refusal;
     if refusal != 0 {
         return Answered { refusal, count: 0 };

@@ -1,7 +1,7 @@
 // Opening a query on a seat, over a lent table of sessions and a lent catalogue.
 ghost use mathlib.Core.List.{[]};
 ghost use Rattle.call.specs.Step.{sourcesOf, openStep, Keeps};
-use call::Opened;
+use query::Opened;
 use table::Handle;
 use table::Seat;
 
@@ -13,7 +13,7 @@ pub fn open(table: &mut [u32], catalogue: &[u8], seat: Seat, tree: &[u8]) -> Ope
 {
     let k = seat.0;
     let mut places = [0u32; catalogue::ROWS_MOST];
-    let judged = call_judge::judge(table, catalogue, k, &mut places);
+    let judged = call_judge::judge(table, catalogue, seat, &mut places);
     let refusal = judged.refusal;
     let rows = judged.rows;
     if refusal != 0 {
@@ -34,8 +34,5 @@ pub fn open(table: &mut [u32], catalogue: &[u8], seat: Seat, tree: &[u8]) -> Ope
         };
     }
     query_open::open(&mut table[at..end], handle, tree, catalogue, rows, &places);
-    Opened {
-        refusal: 0,
-        handle: Handle(handle),
-    }
+    Opened { refusal: 0, handle }
 }

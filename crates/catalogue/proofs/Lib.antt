@@ -11,3 +11,4 @@ pub mod Found
 pub mod EndLaws
 pub mod RowsLaws
 pub mod CheckLaws
+pub mod Numbered

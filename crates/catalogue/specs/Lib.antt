@@ -7,3 +7,4 @@ pub mod NumberPlaces
 pub mod CataloguePlaces
 pub mod CatalogueReady
 pub mod CheckTold
+pub mod Numbered

@@ -45,6 +45,10 @@ pub enum RowAt {
     NoRow,
 }
 
+// A row's number: a type of its own, as a seat and a cursor's handle are (`table::Seat`, `table::Handle`), so that none can
+// stand for another.
+pub struct Row(pub u32);
+
 // The check's answer: refusal 3 or 0, and the row count (0 where it is refused).
 pub struct Checked {
     pub refusal: u32,

@@ -3,3 +3,4 @@ pub mod Facts
 pub mod Judging
 pub mod Sending
 pub mod Fetching
+pub mod Numbered

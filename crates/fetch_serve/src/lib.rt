@@ -7,8 +7,8 @@ ghost use Rattle.refusal.specs.Refusal.{firstCause};
 ghost use Rattle.fetch.specs.Fetch.{firstUnfit, remaining, earlyCauses};
 ghost use Rattle.fetch.specs.FetchReady.{FetchReady};
 ghost use Rattle.fetch.specs.FetchTold.{RowsSent, Fetched};
+use catalogue::Row;
 use fetch::Request;
-use page::Row;
 use page::Sheet;
 
 // A row is asked for and remains, but the first does not fit.

@@ -8,6 +8,8 @@ ghost use Rattle.call.specs.Step.{sourcesOf, messageStep, openStep};
 ghost use Rattle.file.specs.Served.{answerMost, opened, replied, answerTo, Serves, lentOf, lentBy, Lends};
 use line::Call;
 use message::Answered;
+use query::Opened;
+use table::Seat;
 
 // The catalogue that is lent from this line on. Answers its length.
 pub fn lend(call: Call, line: &[u8], catalogue: &mut [u8], lent: usize) -> usize
@@ -29,7 +31,7 @@ pub fn lend(call: Call, line: &[u8], catalogue: &mut [u8], lent: usize) -> usize
 fn reply(
     table: &mut [u32],
     catalogue: &[u8],
-    seat: u32,
+    seat: Seat,
     bytes: &[u8],
     space: &mut [u8],
     out: &mut [u8],
@@ -37,18 +39,12 @@ fn reply(
 ) -> usize
     requires { ⌜ (length (now space) ≤ roomMost) × (used + answerMost ≤ length (now out)) ⌝ }
     ensures { λ r. ⌜ Serves
-        (replied (messageStep (sourcesOf (now (catalogue .entry))) (now (table .entry)) seat
+        (replied (messageStep (sourcesOf (now (catalogue .entry))) (now (table .entry)) (seat .0)
         (now (bytes .entry)) (length (now (space .entry)))))
         used r (now (table .exit)) (now (out .entry)) (now (out .exit)) ⌝ }
 {
     line_text::fill(space);
-    let answered: Answered = call_message::message(
-        table,
-        catalogue,
-        table::Seat(seat),
-        bytes,
-        space,
-    );
+    let answered: Answered = call_message::message(table, catalogue, seat, bytes, space);
     let refusal = answered.refusal;
     let count = answered.count;
     line_answer::put_message(out, used, refusal, space, count as usize)
@@ -58,7 +54,7 @@ fn reply(
 fn message(
     table: &mut [u32],
     catalogue: &[u8],
-    seat: u32,
+    seat: Seat,
     room: usize,
     digits: &[u8],
     out: &mut [u8],
@@ -66,7 +62,7 @@ fn message(
 ) -> usize
     requires { ⌜ (room ≤ roomMost) × (length (now digits) / 2 ≤ bytesMost) × (used + answerMost ≤ length (now out)) ⌝ }
     ensures { λ r. ⌜ Serves
-        (replied (messageStep (sourcesOf (now (catalogue .entry))) (now (table .entry)) seat
+        (replied (messageStep (sourcesOf (now (catalogue .entry))) (now (table .entry)) (seat .0)
         (hexBytes (now (digits .entry))) room))
         used r (now (table .exit)) (now (out .entry)) (now (out .exit)) ⌝ }
 {
@@ -88,24 +84,23 @@ fn message(
 fn open(
     table: &mut [u32],
     catalogue: &[u8],
-    seat: u32,
+    seat: Seat,
     digits: &[u8],
     out: &mut [u8],
     used: usize,
 ) -> usize
     requires { ⌜ (length (now digits) / 2 ≤ bytesMost) × (used + answerMost ≤ length (now out)) ⌝ }
     ensures { λ r. ⌜ Serves
-        (opened (openStep (sourcesOf (now (catalogue .entry))) (now (table .entry)) seat
+        (opened (openStep (sourcesOf (now (catalogue .entry))) (now (table .entry)) (seat .0)
         (hexBytes (now (digits .entry)))))
         used r (now (table .exit)) (now (out .entry)) (now (out .exit)) ⌝ }
 {
     let mut bytes = [0u8; line::BYTES_MOST];
     let size = line_answer::load(digits, &mut bytes);
-    let opened = call_open::open(table, catalogue, table::Seat(seat), &bytes[0..size]);
+    let opened: Opened = call_open::open(table, catalogue, seat, &bytes[0..size]);
     let refusal = opened.refusal;
     let handle = opened.handle;
-    let number = handle.0;
-    line_answer::put_open(out, used, refusal, number)
+    line_answer::put_open(out, used, refusal, handle)
 }
 
 // Serves the call that the line is. Answers how many bytes of the output are then in use.
@@ -128,17 +123,17 @@ pub fn serve(
         Call::Nothing => used,
         Call::Fault(reason) => line_answer::put_error(out, used, number, reason),
         Call::Catalogue(_, _) => used,
-        Call::Connect(seat, version) => {
-            let refusal = call_connect::connect(table, catalogue, table::Seat(seat), version);
+        Call::Connect(k, version) => {
+            let refusal = call_connect::connect(table, catalogue, Seat(k), version);
             line_answer::put_connect(out, used, refusal)
         }
-        Call::Open(seat, first, last) => {
+        Call::Open(k, first, last) => {
             let digits = &line[first..last];
-            open(table, catalogue, seat, digits, out, used)
+            open(table, catalogue, Seat(k), digits, out, used)
         }
-        Call::Message(seat, room, first, last) => {
+        Call::Message(k, room, first, last) => {
             let digits = &line[first..last];
-            message(table, catalogue, seat, room as usize, digits, out, used)
+            message(table, catalogue, Seat(k), room as usize, digits, out, used)
         }
         Call::Word(index, value) => {
             let at = index as usize;

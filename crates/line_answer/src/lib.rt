@@ -10,6 +10,7 @@ use line::Reason;
 use line_text::put;
 use line_text::put_decimal;
 use line_text::put_hex;
+use table::Handle;
 
 fn put_reason(out: &mut [u8], at: usize, reason: Reason) -> usize
     requires { ⌜ at + 12 ≤ length (now out) ⌝ }
@@ -56,12 +57,12 @@ pub fn put_connect(out: &mut [u8], used: usize, refusal: u32) -> usize
 }
 
 // `open REFUSAL HANDLE`
-pub fn put_open(out: &mut [u8], used: usize, refusal: u32, handle: u32) -> usize
+pub fn put_open(out: &mut [u8], used: usize, refusal: u32, handle: Handle) -> usize
     requires { ⌜ used + plain ≤ length (now out) ⌝ }
-    ensures { λ r. ⌜ Put (openText refusal handle) used r (now (out .entry)) (now (out .exit)) ⌝ }
+    ensures { λ r. ⌜ Put (openText refusal (handle .0)) used r (now (out .entry)) (now (out .exit)) ⌝ }
 {
     let space = put_number(out, used, b"open ", refusal as u64);
-    let end = put_number(out, space, b" ", handle as u64);
+    let end = put_number(out, space, b" ", handle.0 as u64);
     put(out, end, b"\n")
 }
 

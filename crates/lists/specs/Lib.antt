@@ -4,3 +4,4 @@ pub mod Every
 pub mod Rising
 pub mod Options
 pub mod Parts
+pub mod Numbered

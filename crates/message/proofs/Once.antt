@@ -1,9 +1,10 @@
 -- Any two outcomes that a statement of a message's function allows agree. Assumes nothing.
 use mathlib.Core.Path.{_≡_, sym, _∙_}
-use mathlib.Core.List.{List}
+use mathlib.Core.List.{List, []}
 use Prim.Native.Nat.{ℕ}
-use Rattle.message.specs.Message.{SeatOutcome}
-use Rattle.message.specs.AnswerTold.{Answers, Refuses}
+use Rattle.table.specs.Seat.{seatOf}
+use Rattle.message.specs.Message.{SeatOutcome, seatMessage}
+use Rattle.message.specs.AnswerTold.{Answers, AnswersAny, Refuses}
 use Rattle.message.specs.declared.Answered.{Answered}
 
 -- the same answer, the same words, the same bytes
@@ -21,6 +22,11 @@ answers-once o r r′ b b′ entry x x′ k l =
       kept = k .kept ∙ sym (l .kept);
       written = k .written ∙ sym (l .written);
     }
+
+-- where no rows are sent, any rows of the catalogue will do
+pub answers-any-once : (b m : List ℕ) (r r′ : Answered) (w w′ entry x x′ : List ℕ) → AnswersAny b m r w entry x → AnswersAny b m r′ w′ entry x′
+    → Same r r′ w w′ x x′
+answers-any-once b m r r′ w w′ entry x x′ k l = answers-once (seatMessage [] (seatOf b) m) r r′ w w′ entry x x′ (k []) (l [])
 
 pub refuses-once : (msg refusal : ℕ) (r r′ : Answered) (entry x x′ : List ℕ) → Refuses msg refusal r entry x → Refuses msg refusal r′ entry x′
     → (r ≡ r′) × (x ≡ x′)

@@ -16,7 +16,7 @@ use Rattle.wire.specs.Laid.{fourWords}
 use Rattle.table.specs.Seat.{Cursor, Seat, cursorIn, withCursor, rebound}
 use Rattle.refusal.specs.Refusal.{firstCause, statusOf}
 use Rattle.fetch.specs.Request.{request}
-use Rattle.fetch.specs.Asking.{asking, refusalOf}
+use Rattle.fetch.specs.Asking.{asking, askingNumbered}
 use Rattle.fetch.specs.declared.Request.{Request}
 use Rattle.fetch.specs.Fetch.{fetchCauses, fetchReply, fetched}
 use Rattle.table.specs.Open.{isOpen, stillOpen}
@@ -84,7 +84,7 @@ unfit (some b) = not (fit (b .width) (b .columns))
 
 -- 9 "body malformed", for get rows: the number that the reader's answer has
 abbrev pub unasked : Option Request → Bool
-unasked q = eqb (refusalOf (asking q)) 9
+unasked q = eqb (askingNumbered (asking q) .number) 9
 
 -- 11, 12, 13 and 15, of a body that reads and an open cursor
 abbrev pub rowsCauses : List Row → Option Cursor → Option Request → List (ℕ × Bool)

@@ -6,6 +6,7 @@ ghost use Rattle.message.specs.AnswerReady.{MessageReady, AdmittedReady, Source
 ghost use Rattle.message.specs.AnswerTold.{Answers};
 use fetch::Asking;
 use message::Answered;
+use table::Handle;
 
 // Get rows: a page of the cursor's rows, and the cursor moved past them.
 fn fetch(
@@ -25,7 +26,7 @@ fn fetch(
     let Asking::Asked(request) = fetch_request::read(message) else {
         return message_gate::refuse(reply, msg, 9);
     };
-    let handle = request.handle;
+    let handle = Handle(request.handle);
     let size = request.size;
     if !table_handle::is_open(seat, handle) {
         return message_gate::refuse(reply, msg, 10);

@@ -11,14 +11,15 @@ ghost use Rattle.message.specs.MessagePlaces.{reboundAt};
 ghost use Rattle.message.specs.AnswerReady.{AdmittedReady};
 ghost use Rattle.message.specs.AnswerTold.{AnswersAny, bindingsFound};
 use message::Answered;
+use table::Handle;
 
 // The header and one word: a message that frees a cursor, and its reply.
 const FREE_SIZE: usize = wire::HEADER_SIZE + 4;
 
 // Closes the cursor of a handle.
-fn close(seat: &mut [u32], handle: u32)
+fn close(seat: &mut [u32], handle: Handle)
     requires { ⌜ length (now seat) ≡ seatSize ⌝ }
-    ensures { λ _. ⌜ now (seat .exit) ≡ put (now (seat .entry)) (cursorPlace handle) cursorSize (cursorWords none) ⌝ }
+    ensures { λ _. ⌜ now (seat .exit) ≡ put (now (seat .entry)) (cursorPlace (handle .0)) cursorSize (cursorWords none) ⌝ }
 {
     let at = table_handle::cursor_at(handle);
     let end = at + table::CURSOR_SIZE;
@@ -50,7 +51,7 @@ pub fn free(seat: &mut [u32], message: &[u8], reply: &mut [u8], msg: u32) -> Ans
     if message.len() != FREE_SIZE {
         return message_gate::refuse(reply, msg, 9);
     }
-    let handle = wire_word::word(message, wire::HANDLE_AT);
+    let handle = Handle(wire_word::word(message, wire::HANDLE_AT));
     if !table_handle::is_open(seat, handle) {
         return message_gate::refuse(reply, msg, 10);
     }
@@ -65,9 +66,9 @@ pub fn free(seat: &mut [u32], message: &[u8], reply: &mut [u8], msg: u32) -> Ans
 }
 
 // Sets the bindings of the cursor of a handle.
-fn rebind(seat: &mut [u32], handle: u32, records: &[u32], count: u32, width: u32)
+fn rebind(seat: &mut [u32], handle: Handle, records: &[u32], count: u32, width: u32)
     requires { ⌜ (length (now seat) ≡ seatSize) × (length (now records) ≡ recordsSize) ⌝ }
-    ensures { λ _. ⌜ now (seat .exit) ≡ reboundAt (now (seat .entry)) handle (now (records .entry)) count width ⌝ }
+    ensures { λ _. ⌜ now (seat .exit) ≡ reboundAt (now (seat .entry)) (handle .0) (now (records .entry)) count width ⌝ }
 {
     let at = table_handle::cursor_at(handle);
     let end = at + table::CURSOR_SIZE;
@@ -99,7 +100,7 @@ pub fn bind(seat: &mut [u32], message: &[u8], reply: &mut [u8], msg: u32) -> Ans
     let mut records = [0u32; bindings::ROOM_WORDS];
     let read = bindings_read::read(message, &mut records);
     let malformed = read.malformed;
-    let handle = read.handle;
+    let handle = Handle(read.handle);
     let count = read.count;
     let width = read.width;
     let opens = table_handle::is_open(seat, handle);

@@ -74,7 +74,7 @@ pub extern "C" fn nadrzewie_open(
         (openStep (sourcesOf (now (catalogue .entry))) (now (table .entry)) (seat .number) (now (tree .entry)))
         (r .refusal) (r .handle .number) 0 (now (table .exit)) [] [] ⌝ }
 {
-    let opened = call_open::open(table, catalogue, table::Seat(seat.number), tree);
+    let opened: query::Opened = call_open::open(table, catalogue, table::Seat(seat.number), tree);
     let refusal = opened.refusal;
     let number = opened.handle.0;
     Opened {

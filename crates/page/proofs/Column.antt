@@ -1,5 +1,5 @@
 -- Laws of a column: what it wants of the reply, and its spans laid one after the other. Assumes nothing.
-use mathlib.Core.Path.{_≡_, ap, _∙_}
+use mathlib.Core.Path.{_≡_, refl, ap, _∙_}
 use mathlib.Core.List.{List, [], _∷_}
 use Prim.Native.Nat.{ℕ, _+_, _^_, _<_}
 use lib.ListN.{length}
@@ -12,12 +12,12 @@ use Rattle.bindings.specs.Fit.{isUsed}
 use Rattle.bindings.specs.declared.Column.{Column}
 use Rattle.wire.specs.Laid.{lays}
 use Rattle.page.specs.Field.{fieldOf}
-use Rattle.page.specs.FieldPlaces.{fieldAt, fieldSeen, cellBytes}
+use Rattle.page.specs.FieldPlaces.{fieldAt, fieldSeen, lengthAt, roomAt, cellBytes}
 use Rattle.page.specs.Cell.{statusOf, lengthOf, kindOf, contentOf, cellOf, offsetWidth, laidIf, blockSpan, blockSize, blockRoom, fieldSpans, columnSpans}
 use Rattle.page.specs.FieldReady.{FieldReady}
 use Rattle.catalogue.specs.CatalogueReady.{FieldsReady}
 use Rattle.page.specs.declared.FieldAt.{FieldAt}
-use Rattle.page.proofs.Fields.{field-seen, field-stands, cell-same, lays-four}
+use Rattle.page.proofs.Fields.{field-seen, field-stands, block-at, length-at, cell-same, lays-four}
 
 -- the field of the column as the code found it
 module _ (s : List ℕ) (f : Fields) (c : Column) (found : FieldAt) (stand : FieldsReady s f) (is : found ≡ fieldAt (c .property) f) where
@@ -26,6 +26,13 @@ module _ (s : List ℕ) (f : Fields) (c : Column) (found : FieldAt) (stand : Fie
 
   pub found-is : fieldSeen s found ≡ fieldOf (c .property) (rowOf s f)
   found-is = ap (fieldSeen s) is ∙ field-seen s (c .property) f
+
+  -- what the code counts for its block and its length
+  pub found-taken : roomAt (c .value .used) found ≡ pick (isUsed (c .value .used)) (blockSize (fieldSeen s found)) 0
+  found-taken = ap (λ (n : ℕ). pick (isUsed (c .value .used)) n 0) (block-at s found found-stands)
+
+  pub found-length : lengthAt (c .property) found ≡ lengthOf (c .property) (fieldSeen s found)
+  found-length = length-at s (c .property) found found-stands
 
   pub found-room : pick (isUsed (c .value .used)) (blockSize (fieldSeen s found)) 0 ≡ blockRoom c (rowOf s f)
   found-room = rw found-is
@@ -48,3 +55,7 @@ module _ (s : List ℕ) (f : Fields) (c : Column) (found : FieldAt) (stand : Fie
       (laidIf (c .status .used) (row + c .status .offset) (statusOf (fieldSeen s found) ∷ []))
       (laidIf (c .length .used) (row + c .length .offset) (le lengthSize (lengthOf (c .property) (fieldSeen s found))))
       ∙ ap (λ g. lays t (fieldSpans base row place c g)) found-is)
+
+-- the room of a column's block in a row, as the code counts it
+pub room-at : (s : List ℕ) (f : Fields) (c : Column) → FieldsReady s f → roomAt (c .value .used) (fieldAt (c .property) f) ≡ blockRoom c (rowOf s f)
+room-at s f c stand = found-taken s f c (fieldAt (c .property) f) stand refl ∙ found-room s f c (fieldAt (c .property) f) stand refl

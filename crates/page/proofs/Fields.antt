@@ -22,8 +22,9 @@ use Rattle.bindings.specs.declared.Column.{Column}
 use Rattle.wire.specs.Laid.{lay, lays, Laid}
 use Rattle.wire.proofs.Lays.{lays-join}
 use Rattle.page.specs.Field.{Field, number, textField, byProperty, fieldOf}
-use Rattle.page.specs.FieldPlaces.{textFieldAt, fieldAt, fieldSeen, cellBytes}
-use Rattle.page.specs.Cell.{variant, variantOf, kindOf, contentOf, cellOf, textType, offsetWidth, laidIf, blockSpan, blockSize, textSize}
+use Rattle.page.specs.FieldPlaces.{textFieldAt, fieldAt, fieldSeen, fieldBy, blockAt, lengthAt, cellBytes}
+use Rattle.page.specs.Cell.{variant, variantOf, kindOf, contentOf, cellOf, textType, offsetWidth, laidIf, blockSpan, blockSize, statusOf, lengthOf, textSize}
+use Rattle.page.specs.Numbered.{fieldNumbered}
 use Rattle.page.specs.FieldReady.{FieldReady, SizeReady, SizesReady, SpansReady}
 use Rattle.catalogue.specs.CatalogueReady.{FieldsReady, UnitsReady}
 use Rattle.page.specs.declared.FieldAt.{FieldAt}
@@ -134,6 +135,37 @@ laid-used t u flag place bytes e h = rw (eq-eqb flag 1 e) h
 -- a block where the value is used: of a field that has none, and of a text
 pub block-laid : (t u : List ℕ) (flag place : ℕ) (f : Field) → flag ≡ 1 → u ≡ lays t (blockSpan place f) → u ≡ lays t (pick (isUsed flag) (blockSpan place f) [])
 block-laid t u flag place f e h = rw (eq-eqb flag 1 e) h
+
+-- the size and the length that the code counts are those of the field
+pub block-at : (s : List ℕ) (f : FieldAt) → FieldReady s f → blockAt f ≡ blockSize (fieldSeen s f)
+block-at s (NumberIs v) h = refl
+block-at s (TextIs t) h = sym (units-double s t (h .0) (h .1))
+block-at s Absent h = refl
+
+pub length-at : (s : List ℕ) (property : ℕ) (f : FieldAt) → FieldReady s f → lengthAt property f ≡ lengthOf property (fieldSeen s f)
+length-at s property (NumberIs v) h = refl
+length-at s property (TextIs t) h = sym (units-double s t (h .0) (h .1))
+length-at s property Absent h = refl
+
+-- the number of an answer is the status byte
+pub status-numbered : (s : List ℕ) (f : FieldAt) → fieldNumbered f .number ≡ statusOf (fieldSeen s f)
+status-numbered s (NumberIs v) = refl
+status-numbered s (TextIs t) = refl
+status-numbered s Absent = refl
+
+-- the number and the values of an answer are the status and the field of the row's that the property names
+value-seen : (s : List ℕ) (f : FieldAt) → fieldBy s (fieldNumbered f .values) ≡ fieldSeen s f
+value-seen s (NumberIs v) = refl
+value-seen s (TextIs t) = refl
+value-seen s Absent = refl
+
+pub field-numbered : (s : List ℕ) (property : ℕ) (f : Fields)
+    → (fieldNumbered (fieldAt property f) .number ≡ statusOf (fieldOf property (rowOf s f)))
+    × (fieldBy s (fieldNumbered (fieldAt property f) .values) ≡ fieldOf property (rowOf s f))
+field-numbered s property f = (
+  status-numbered s (fieldAt property f) ∙ ap statusOf (field-seen s property f),
+  value-seen s (fieldAt property f) ∙ field-seen s property f,
+)
 
 -- what a text's block wants of the reply, where the block is to be laid
 pub block-fits : (n place used : ℕ) (s : List ℕ) (f : FieldAt) (t : Text) → used ≡ 1 → f ≡ TextIs t → FieldReady s f

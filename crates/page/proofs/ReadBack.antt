@@ -12,13 +12,13 @@ use lib.Seq.{getD-take, getD-drop}
 use Rattle.wire.specs.Word.{le, numberAt}
 use Rattle.lists.proofs.Below.{by-test}
 use Rattle.catalogue.specs.Plain.{Row, rowIn}
-use Rattle.wire.specs.Property.{variantType, lengthSize}
+use Rattle.wire.specs.Property.{variantType, variantSize, lengthSize}
 use Rattle.bindings.specs.Fit.{fit}
 use Rattle.bindings.specs.Sound.{column}
 use Rattle.bindings.specs.declared.Column.{Column}
 use Rattle.lists.specs.Each.{Each}
 use Rattle.wire.specs.Laid.{Laid}
-use Rattle.lists.specs.Parts.{part}
+use Rattle.lists.specs.Parts.{part, zeros}
 use Rattle.wire.proofs.Little.{le-length, read-number}
 use Rattle.page.specs.Field.{Field, number, text, absent, fieldOf}
 use Rattle.page.specs.Cell.{offsetWidth, lengthOf, kindOf, contentOf, variant, variantOf, cellOf, columnSpans}
@@ -26,7 +26,7 @@ use Rattle.page.proofs.Units.{block-length}
 use Rattle.page.specs.Rows.{allBlocks, rowsSpans}
 use Rattle.page.specs.Page.{headSpans, page}
 use Rattle.page.specs.Reads.{rowPlace, blockPlace, Held, numberPlace, Reads}
-use Rattle.page.proofs.Inner.{inner-number}
+use Rattle.page.proofs.Inner.{inner, inner-number}
 use Rattle.page.proofs.Pick.{each-right, of-block, of-cells, of-reply}
 use Rattle.page.proofs.Reply.{page-reads}
 
@@ -77,6 +77,22 @@ module _ (u : List ℕ) (at n property type offset : ℕ) (f : Field) (is : type
       eight : length (le 2 (kindOf property f) ++ replicate 6 0) ≡ 8
       eight = omega (arith, length-append (le 2 (kindOf property f)) (replicate 6 0), le-length 2 (kindOf property f))
 
+  -- all other bytes are zero
+  cell-blank : part u (at + 2) 6 ≡ zeros 6
+  cell-blank =
+      ap (λ (k : ℕ). part u (at + k) 6) (sym (le-length 2 (kindOf property f)))
+      ∙ inner u at n (le 2 (kindOf property f)) (zeros 6) (le 4 (contentOf offset f) ++ zeros 4) (e ∙ cell-is property type offset f is)
+
+  cell-rest : part u (at + 12) 4 ≡ zeros 4
+  unfolding le
+  cell-rest =
+      inner u at n (le 2 (kindOf property f) ++ (zeros 6 ++ le 4 (contentOf offset f))) (zeros 4) []
+      (e ∙ cell-is property type offset f is)
+
+cell-nothing : (u : List ℕ) (at property type offset : ℕ) → type ≡ variantType
+    → part u at (length (cellOf property type offset absent)) ≡ cellOf property type offset absent → part u at variantSize ≡ zeros variantSize
+cell-nothing u at property type offset is e = rw (eq-eqb type variantType is) at e
+
 -- a number in its cell, of either kind
 cell-value : (u : List ℕ) (at n property offset v : ℕ) (c : Column) → v < 256 ^ 4 → part u at n ≡ cellOf property (c .vtype) offset (number v) → n ≡ length (cellOf property (c .vtype) offset (number v))
     → numberAt 4 u (at + numberPlace c) ≡ v
@@ -120,6 +136,9 @@ module _ (size from width base status : ℕ) (columns : List Column) (rows : Lis
             cell-value u (row + c .value .offset) (length (cellOf (c .property) (c .vtype) (base + place) (number v))) (c .property) (base + place) v c (rw e at held) (rw e at (cells .value w)) refl;
         offset = λ w v units e.
             cell-number u (row + c .value .offset) (length (cellOf (c .property) (c .vtype) (base + place) (text units))) (c .property) (c .vtype) (base + place) (text units) v (rw e at (cells .value w)) (omega (arith, offset));
+        blank = λ w v. cell-blank u (row + c .value .offset) (length (cellOf (c .property) (c .vtype) (base + place) f)) (c .property) (c .vtype) (base + place) f v (cells .value w);
+        rest = λ w v. cell-rest u (row + c .value .offset) (length (cellOf (c .property) (c .vtype) (base + place) f)) (c .property) (c .vtype) (base + place) f v (cells .value w);
+        nothing = λ w v e. cell-nothing u (row + c .value .offset) (c .property) (c .vtype) (base + place) v (rw e at (cells .value w));
         block = λ w units e.
             ap (λ (i : ℕ). part u place i) (sym (block-length units)) ∙ of-block (Back u) base row place c r all w units e;
       }

@@ -10,3 +10,4 @@ pub mod FieldReady
 pub mod RowReady
 pub mod PageReady
 pub mod PageTold
+pub mod Numbered

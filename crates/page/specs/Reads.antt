@@ -7,9 +7,9 @@ use lib.ListN.{length, getD, take}
 use Rattle.lists.specs.Below.{pick}
 use Rattle.wire.specs.Word.{numberAt}
 use Rattle.catalogue.specs.Plain.{Row, rowIn}
-use Rattle.wire.specs.Property.{variantType, numberSize, lengthSize}
+use Rattle.wire.specs.Property.{variantType, variantSize, numberSize, lengthSize}
 use Rattle.bindings.specs.declared.Column.{Column}
-use Rattle.lists.specs.Parts.{part}
+use Rattle.lists.specs.Parts.{part, zeros}
 use Rattle.page.specs.Field.{Field, number, text, absent}
 use Rattle.page.specs.Cell.{offsetWidth, textSize, statusOf, lengthOf, kindOf, blockOf}
 use Rattle.page.specs.Rows.{blocks, allBlocks}
@@ -42,6 +42,10 @@ pub record Reads (reply : List ℕ) (base row place : ℕ) (c : Column) (f : Fie
       → numberAt (numberSize (c .property)) reply (row + c .value .offset + numberPlace c) ≡ v
   pub offset : c .value .used ≡ 1 → c .vtype ≡ variantType → (units : List ℕ) → f ≡ text units
       → numberAt offsetWidth reply (row + c .value .offset + 8) ≡ base + place
+  -- "6 zero bytes", the bytes after the number or offset, which stands "in the first 4" of 8, and "absent text, 16 zeros"
+  pub blank : c .value .used ≡ 1 → c .vtype ≡ variantType → part reply (row + c .value .offset + 2) 6 ≡ zeros 6
+  pub rest : c .value .used ≡ 1 → c .vtype ≡ variantType → part reply (row + c .value .offset + 12) 4 ≡ zeros 4
+  pub nothing : c .value .used ≡ 1 → c .vtype ≡ variantType → f ≡ absent → part reply (row + c .value .offset) variantSize ≡ zeros variantSize
   pub block : c .value .used ≡ 1 → (units : List ℕ) → f ≡ text units → part reply place (textSize units) ≡ blockOf units
 
 -- the eight words before the rows: the header, _cRowsReturned, eType, _chapt, skip

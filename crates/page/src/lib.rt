@@ -9,9 +9,6 @@ pub enum FieldAt {
     Absent,
 }
 
-// A row's number: a type of its own, so that no seat and no handle can stand for it.
-pub struct Row(pub u32);
-
 // What a reply is laid by: how many columns are bound in rows of which width, the reply's size, the place of its first row, the
 // client's base, and how many rows are asked for.
 pub struct Sheet {

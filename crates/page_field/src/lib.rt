@@ -1,12 +1,9 @@
 // The field of a row that a property names, and what is sent of it: its status, length, cell, and block's room.
 ghost use mathlib.Core.Path.{_≡_};
-ghost use Rattle.page.specs.FieldPlaces.{textFieldAt, fieldAt, fieldSeen};
-ghost use Rattle.catalogue.specs.CataloguePlaces.{rowOf};
-ghost use Rattle.lists.specs.Below.{pick};
-ghost use Rattle.bindings.specs.Fit.{isUsed};
-ghost use Rattle.page.specs.Cell.{statusOf, lengthOf, kindOf, contentOf, blockSize, blockRoom};
-ghost use Rattle.page.specs.FieldReady.{InAny, FieldReady, SizeReady, SizesReady};
-ghost use Rattle.catalogue.specs.CatalogueReady.{FieldsReady};
+ghost use Rattle.page.specs.FieldPlaces.{textFieldAt, fieldAt, fieldSeen, blockAt, lengthAt, roomAt};
+ghost use Rattle.page.specs.Cell.{kindOf, contentOf};
+ghost use Rattle.page.specs.Numbered.{fieldNumbered};
+ghost use Rattle.page.specs.FieldReady.{InAny, SizeReady, SizesReady};
 use bindings::Column;
 use catalogue::Fields;
 use catalogue::Text;
@@ -42,7 +39,7 @@ pub fn field(fields: Fields, property: u32) -> FieldAt
 
 // The status byte: 0 present, 2 absent.
 pub fn status(field: FieldAt) -> u8
-    ensures { λ r. ⌜ InAny (λ s. r ≡ statusOf (fieldSeen s field)) ⌝ }
+    ensures { λ r. ⌜ r ≡ fieldNumbered field .number ⌝ }
 {
     match field {
         FieldAt::NumberIs(_) => 0,
@@ -54,7 +51,7 @@ pub fn status(field: FieldAt) -> u8
 // The bytes of a field's block.
 fn block_size(field: FieldAt) -> usize
     requires { ⌜ SizeReady field ⌝ }
-    ensures { λ r. ⌜ InAny (λ s. FieldReady s field → r ≡ blockSize (fieldSeen s field)) ⌝ }
+    ensures { λ r. ⌜ r ≡ blockAt field ⌝ }
 {
     match field {
         FieldAt::NumberIs(_) => 0,
@@ -69,7 +66,7 @@ fn block_size(field: FieldAt) -> usize
 // The length that is sent.
 pub fn length_sent(field: FieldAt, property: u32) -> u64
     requires { ⌜ SizeReady field ⌝ }
-    ensures { λ r. ⌜ InAny (λ s. FieldReady s field → r ≡ lengthOf property (fieldSeen s field)) ⌝ }
+    ensures { λ r. ⌜ r ≡ lengthAt property field ⌝ }
 {
     match field {
         FieldAt::NumberIs(_) => wire_property::number_size(property) as u64,
@@ -106,7 +103,7 @@ pub fn content(field: FieldAt, offset: u64) -> u64
 // The bytes of a field's block where its value is used.
 pub fn room_of(used: u32, field: FieldAt) -> usize
     requires { ⌜ SizeReady field ⌝ }
-    ensures { λ r. ⌜ InAny (λ s. FieldReady s field → r ≡ pick (isUsed used) (blockSize (fieldSeen s field)) 0) ⌝ }
+    ensures { λ r. ⌜ r ≡ roomAt used field ⌝ }
 {
     if used != 1 {
         return 0;
@@ -117,7 +114,7 @@ pub fn room_of(used: u32, field: FieldAt) -> usize
 // The bytes of a column's block in a row.
 pub fn block_room(column: Column, fields: Fields) -> usize
     requires { ⌜ SizesReady fields ⌝ }
-    ensures { λ r. ⌜ InAny (λ s. FieldsReady s fields → r ≡ blockRoom column (rowOf s fields)) ⌝ }
+    ensures { λ r. ⌜ r ≡ roomAt (column .value .used) (fieldAt (column .property) fields) ⌝ }
 {
     let found = field(fields, column.property);
     room_of(column.value.used, found)

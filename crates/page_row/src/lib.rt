@@ -10,7 +10,7 @@ ghost use Rattle.page.specs.Rows.{blocks};
 ghost use Rattle.page.specs.PageTold.{RowLaid};
 ghost use Rattle.page.specs.RowReady.{RecordsReady, blocksMost, RowReady};
 use catalogue::Fields;
-use page::Row;
+use catalogue::Row;
 use page::Sheet;
 
 // The place of a row in the catalogue, by its number.

@@ -7,7 +7,7 @@ ghost use Rattle.page.specs.Page.{statusFor};
 ghost use Rattle.page.specs.PageReady.{PageReady};
 ghost use Rattle.page.specs.PageTold.{RowsLaid, Paged};
 use catalogue::Fields;
-use page::Row;
+use catalogue::Row;
 use page::Sheet;
 
 // The rows with these numbers, as many as are asked for, remain and fit, with their blocks below the reply's end.

@@ -36,11 +36,11 @@ pub record Own : Type 0 where
   pub answer : Answer
   pub after : Option Seat
 
-abbrev pub told : ℕ → Option Seat → Own
-told n held = record { answer = record { refusal = n; handle = 0; reply = [] }; after = held }
+abbrev pub quietly : ℕ → Option Seat → Own
+quietly n held = record { answer = record { refusal = n; handle = 0; reply = [] }; after = held }
 
 abbrev pub ownOpen : Sources → Option Seat → List ℕ → Own
-ownOpen src none tree = told 7 none
+ownOpen src none tree = quietly 7 none
 ownOpen src (some s) tree =
     record { answer = record { refusal = 0; handle = freeHandle s; reply = [] }; after = some (openedOn s tree (src .rows)) }
 
@@ -55,11 +55,11 @@ taken held = (7, isConnected held) ∷ []
 -- a call by its seat alone, where 1 to 3 do not apply
 abbrev pub ownStep : Sources → Option Seat → Call → Own
 ownStep src held (connecting k version) =
-    pick (eqb (firstCause (taken held)) 0) (told 0 (some (fresh version))) (told (firstCause (taken held)) held)
+    pick (eqb (firstCause (taken held)) 0) (quietly 0 (some (fresh version))) (quietly (firstCause (taken held)) held)
 ownStep src held (opening k tree) =
-    pick (eqb (firstCause (openCauses held tree)) 0) (ownOpen src held tree) (told (firstCause (openCauses held tree)) held)
+    pick (eqb (firstCause (openCauses held tree)) 0) (ownOpen src held tree) (quietly (firstCause (openCauses held tree)) held)
 ownStep src held (messaging k m room) =
-    pick (eqb (firstCause (sizing m room)) 0) (ownMessage src held m) (told (firstCause (sizing m room)) held)
+    pick (eqb (firstCause (sizing m room)) 0) (ownMessage src held m) (quietly (firstCause (sizing m room)) held)
 
 -- none of 1 to 3 applies
 pub not-judged : (src : Sources) (t : List ℕ) (seat : ℕ) → Passing src t → seat < seats → firstCause (judging src t seat) ≡ 0

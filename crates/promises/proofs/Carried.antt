@@ -1,7 +1,7 @@
 -- Every cursor is what its seat's calls and their answers tell: its position is the count of the rows that its replies have carried
 -- since its opening, its selection the one that its opening made. Assumes nothing.
-use mathlib.Core.Path.{_≡_, refl, sym, ap, subst, _∙_}
-use mathlib.Core.Bool.{Bool, true, false, not}
+use mathlib.Core.Path.{_≡_, refl, sym, ap, _∙_}
+use mathlib.Core.Bool.{true, false, not}
 use mathlib.Core.List.{List, [], _∷_}
 use mathlib.Core.Logic.{inl, inr, ⊎-elim}
 use mathlib.Core.Option.{Option, none, some}
@@ -10,7 +10,7 @@ use native.Mathlib.Omega.{arith}
 use borrow.Author.Tests.{eq-eqb, ne-eqb, eqb-true, eqb-false}
 use lib.Dec.{eqb}
 use lib.ListN.{length}
-use Rattle.lists.specs.Below.{pick, both}
+use Rattle.lists.specs.Below.{pick}
 use Rattle.wire.specs.Word.{numberAt}
 use Rattle.lists.proofs.Below.{by-test, true≢false}
 use Rattle.catalogue.specs.Plain.{Row, rowsOf}
@@ -29,14 +29,12 @@ use Rattle.message.specs.Message.{msgOf, handleOf, kindOf, kindFrom, served, no
 use Rattle.table.specs.Open.{isOpen}
 use Rattle.message.proofs.Answering.{gate-numbered}
 use Rattle.query.specs.Open.{freeHandle}
-use Rattle.call.specs.Step.{Sources, sourcesOf, seatHeld, sizing}
-use Rattle.call.proofs.Seating.{seat-ok}
+use Rattle.call.specs.Step.{Sources, sourcesOf, sizing}
 use Rattle.promises.specs.Calls.{Call, connecting, opening, messaging, seatOfCall, step, Answer, answerOf, history, after}
-use Rattle.promises.specs.Client.{Handle, carriedOn, boundOn, afterMessage, accepted, afterCall, cursorTold, cursorBy, heldCursor}
-use Rattle.promises.proofs.Refusals.{accepted-passes, seat-refusal}
-use Rattle.promises.proofs.Unchanged.{refused-leaves}
-use Rattle.promises.proofs.Alone.{ownStep, step-alone}
-use Rattle.promises.proofs.Isolated.{others-left}
+use Rattle.promises.specs.Client.{Handle, accepted, Account, changed, bound, afterMessage, afterCall, cursorAccount, cursorTold, cursorBy, heldCursor}
+use Rattle.promises.proofs.Refusals.{seat-refusal}
+use Rattle.promises.proofs.Alone.{ownStep}
+use Rattle.promises.proofs.Followed.{Follows, step-followed, after-followed}
 use Rattle.promises.proofs.Served.{fetching, count-read}
 
 -- a cursor put under a handle, and what then stands under another
@@ -88,6 +86,13 @@ kind-of msg e =
     (λ d.
     absurd (true≢false (sym (rw (turned msg 0xC9 q, turned msg 0xCB r, turned msg 0xCC l, turned msg 0xD0 d) at e)))))))
 
+-- what a reply makes of a cursor, and bindings
+abbrev carriedOn : List ℕ → Cursor → Cursor
+carriedOn reply c = moved c (c .position + numberAt 4 reply 16)
+
+abbrev boundBy : Bindings → Cursor → Cursor
+boundBy b c = rebound c (b .width) (b .columns)
+
 -- the causes of a body that do not apply
 module _ (rows : List Row) (s : Seat) (m : List ℕ) where
   freed-open : firstCause (bodyCauses rows 1 s m) ≡ 0 → isOpen (cursorIn s (handleOf m)) ≡ true
@@ -129,36 +134,37 @@ module _ (rows : List Row) (s : Seat) (m : List ℕ) where
       → numberAt 4 (fetchReply rows c q) 16 ≡ sent rows c q
       → cursorBy (rowsDone rows s (handleOf m) (cursorIn s (handleOf m)) (request m) .after) handle
       ≡ pick (eqb (handleOf m) handle)
-      (carriedOn (rowsDone rows s (handleOf m) (cursorIn s (handleOf m)) (request m) .reply) (cursorIn s handle))
+      (changed (carriedOn (rowsDone rows s (handleOf m) (cursorIn s (handleOf m)) (request m) .reply)) (cursorIn s handle))
       (cursorIn s handle)
   fetch-told handle n c q h b r =
       rw (h, b)
-      (named handle (some (fetched rows c q)) (carriedOn (fetchReply rows c q) (cursorIn s handle)) (open-handle s (handleOf m) (ap isOpen h)) n
+      (named handle (some (fetched rows c q)) (changed (carriedOn (fetchReply rows c q)) (cursorIn s handle)) (open-handle s (handleOf m) (ap isOpen h)) n
       (λ w.
       ap (λ (i : ℕ). some (moved c (c .position + i))) (sym r)
-      ∙ ap (carriedOn (fetchReply rows c q)) (sym (ap (cursorIn s) (sym w) ∙ h))))
+      ∙ ap (changed (carriedOn (fetchReply rows c q))) (sym (ap (cursorIn s) (sym w) ∙ h))))
 
   bind-told : (handle : ℕ) → Handle handle → (c : Cursor) (x : Bindings) → cursorIn s (handleOf m) ≡ some c → bindings m ≡ some x
       → cursorBy (some (boundTo s (handleOf m) (cursorIn s (handleOf m)) (bindings m))) handle
-      ≡ pick (eqb (handleOf m) handle) (boundOn (bindings m) (cursorIn s handle)) (cursorIn s handle)
+      ≡ pick (eqb (handleOf m) handle) (changed (bound boundBy (bindings m)) (cursorIn s handle)) (cursorIn s handle)
   bind-told handle n c x h b =
       rw (h, b)
-      (named handle (some (rebound c (x .width) (x .columns))) (boundOn (some x) (cursorIn s handle)) (open-handle s (handleOf m) (ap isOpen h)) n
-      (λ w. ap (boundOn (some x)) (sym (ap (cursorIn s) (sym w) ∙ h))))
+      (named handle (some (rebound c (x .width) (x .columns))) (changed (boundBy x) (cursorIn s handle)) (open-handle s (handleOf m) (ap isOpen h)) n
+      (λ w. ap (changed (boundBy x)) (sym (ap (cursorIn s) (sym w) ∙ h))))
 
   -- what each kind of message makes of it
-  done-told : SeatOk (some s) → (handle : ℕ) → Handle handle → Kind (msgOf m) → firstCause (bodyCauses rows (kindOf (msgOf m)) s m) ≡ 0
+  done-told : (src : Sources) → SeatOk (some s) → (handle : ℕ) → Handle handle → Kind (msgOf m)
+      → firstCause (bodyCauses rows (kindOf (msgOf m)) s m) ≡ 0
       → cursorBy (doneOn rows (kindOf (msgOf m)) s m .after) handle
-      ≡ afterMessage handle m (doneOn rows (kindOf (msgOf m)) s m .reply) (cursorIn s handle)
-  done-told f handle n (leaves a k) e = rw (k, a)
-  done-told f handle n (frees a b k) e =
+      ≡ afterMessage (cursorAccount src) handle m (doneOn rows (kindOf (msgOf m)) s m .reply) (cursorIn s handle)
+  done-told src f handle n (leaves a k) e = rw (k, a)
+  done-told src f handle n (frees a b k) e =
       rw (k, a, b)
       (named handle none none (open-handle s (handleOf m) (freed-open (rw k at e))) n (λ w. refl))
-  done-told f handle n (fetches a b d k) e =
+  done-told src f handle n (fetches a b d k) e =
       let r = fetching rows s m f (rw k at e) in
       rw (k, a, b, d)
       (fetch-told handle n (r .cursor) (r .asked) (r .held) (r .body) (count-read rows (r .cursor) (r .asked) (r .fits) (r .bound) (r .sound)))
-  done-told f handle n (binds a b d k) e =
+  done-told src f handle n (binds a b d k) e =
       let r = binding (rw k at e) in
       rw (k, a, b, d) (bind-told handle n (r .cursor) (r .body) (r .held) (r .reads))
 
@@ -173,96 +179,73 @@ module _ (rows : List Row) (s : Seat) (m : List ℕ) where
       serves w = by-test (served (msgOf m)) (λ q. q) (λ q. absurd (let z : _≡_ {A = ℕ} 6 0 = rw q at w in omega arith))
 
 -- a message on its seat
-message-told : (rows : List Row) (held : Option Seat) (m : List ℕ) → SeatOk held → (handle : ℕ) → Handle handle → firstCause (seatCauses rows held m) ≡ 0
-    → cursorBy (seatMessage rows held m .after) handle ≡ afterMessage handle m (seatMessage rows held m .reply) (cursorBy held handle)
-unfolding seatMessage firstCause
-message-told rows none m f handle n e =
-    by-test (served (msgOf m))
-    (λ q. absurd (let z : _≡_ {A = ℕ} 7 0 = rw q at e in omega arith))
-    (λ q. absurd (let z : _≡_ {A = ℕ} 6 0 = rw q at e in omega arith))
-message-told rows (some s) m f handle n e =
-    let k = accepted-kind rows s m e in
-    rw (eq-eqb (firstCause (seatCauses rows (some s) m)) 0 e) (done-told rows s m f handle n (k .0) (k .1))
+module _ (src : Sources) where
+  message-told : (rows : List Row) (held : Option Seat) (m : List ℕ) → SeatOk held → (handle : ℕ) → Handle handle → firstCause (seatCauses rows held m) ≡ 0
+      → cursorBy (seatMessage rows held m .after) handle
+      ≡ afterMessage (cursorAccount src) handle m (seatMessage rows held m .reply) (cursorBy held handle)
+  unfolding seatMessage firstCause
+  message-told rows none m f handle n e =
+      by-test (served (msgOf m))
+      (λ q. absurd (let z : _≡_ {A = ℕ} 7 0 = rw q at e in omega arith))
+      (λ q. absurd (let z : _≡_ {A = ℕ} 6 0 = rw q at e in omega arith))
+  message-told rows (some s) m f handle n e =
+      let k = accepted-kind rows s m e in
+      rw (eq-eqb (firstCause (seatCauses rows (some s) m)) 0 e) (done-told rows s m src f handle n (k .0) (k .1))
 
--- a call by its seat alone
-own-message : (src : Sources) (held : Option Seat) (k : ℕ) (m : List ℕ) (room : ℕ) → SeatOk held → (handle : ℕ) → Handle handle
-    → ownStep src held (messaging k m room) .answer .refusal ≡ 0
-    → cursorBy (ownStep src held (messaging k m room) .after) handle
-    ≡ afterCall src k handle (cursorBy held handle) (messaging k m room) (ownStep src held (messaging k m room) .answer)
-own-message src held k m room f handle n =
-    by-test (eqb (firstCause (sizing m room)) 0)
-    (λ q.
-    rw (q, eq-eqb k k refl) (λ e.
-    rw (eq-eqb (seatMessage (rowsOf (src .rows)) held m .refusal) 0 e)
-    (message-told (rowsOf (src .rows)) held m f handle n (sym (seat-refusal (rowsOf (src .rows)) held m) ∙ e))))
-    (λ q. rw q (λ e. absurd (eqb-false (firstCause (sizing m room)) 0 q e)))
+  -- a call by its seat alone
+  module _ (seat handle : ℕ) (n : Handle handle) where
+    own-message : (held : Option Seat) (k : ℕ) (m : List ℕ) (room : ℕ) → SeatOk held → eqb k seat ≡ true
+        → ownStep src held (messaging k m room) .answer .refusal ≡ 0
+        → cursorBy (ownStep src held (messaging k m room) .after) handle
+        ≡ afterCall (cursorAccount src) seat handle (cursorBy held handle) (messaging k m room) (ownStep src held (messaging k m room) .answer)
+    own-message held k m room f same =
+        by-test (eqb (firstCause (sizing m room)) 0)
+        (λ q.
+        rw (q, same) (λ e.
+        rw (eq-eqb (seatMessage (rowsOf (src .rows)) held m .refusal) 0 e)
+        (message-told (rowsOf (src .rows)) held m f handle n (sym (seat-refusal (rowsOf (src .rows)) held m) ∙ e))))
+        (λ q. rw q (λ e. absurd (eqb-false (firstCause (sizing m room)) 0 q e)))
 
-own-told : (src : Sources) (held : Option Seat) (c : Call) → SeatOk held → (handle : ℕ) → Handle handle → ownStep src held c .answer .refusal ≡ 0
-    → cursorBy (ownStep src held c .after) handle ≡ afterCall src (seatOfCall c) handle (cursorBy held handle) c (ownStep src held c .answer)
-unfolding firstCause
-own-told src none (connecting k version) f handle n e =
-    by-test (eqb handle 1) (λ q. rw q) (λ q. by-test (eqb handle 2) (λ l. rw (q, l)) (λ l. rw (q, l)))
-own-told src (some s) (connecting k version) f handle n e = refl
-own-told src none (opening k tree) f handle n e = absurd (let z : _≡_ {A = ℕ} 7 0 = e in omega arith)
-own-told src (some s) (opening k tree) f handle n e =
-    by-test (eqb (freeHandle s) 0)
-    (λ q. absurd (let z : _≡_ {A = ℕ} 14 0 = rw q at e in omega arith))
-    (λ q.
-    by-test (isTree (restriction tree))
-    (λ t.
-    rw (q, t, eq-eqb k k refl)
-    (with-in s (freeHandle s) handle (some (opened (selectedBy (restriction tree) (src .rows)))) (free-handle s q) n))
-    (λ t. absurd (let z : _≡_ {A = ℕ} 16 0 = rw (q, t) at e in omega arith)))
-own-told src held (messaging k m room) f handle n e = own-message src held k m room f handle n e
+    own-told : (held : Option Seat) (c : Call) → SeatOk held → eqb (seatOfCall c) seat ≡ true → ownStep src held c .answer .refusal ≡ 0
+        → cursorBy (ownStep src held c .after) handle ≡ afterCall (cursorAccount src) seat handle (cursorBy held handle) c (ownStep src held c .answer)
+    unfolding firstCause
+    own-told none (connecting k version) f same e =
+        by-test (eqb handle 1) (λ q. rw q) (λ q. by-test (eqb handle 2) (λ l. rw (q, l)) (λ l. rw (q, l)))
+    own-told (some s) (connecting k version) f same e = refl
+    own-told none (opening k tree) f same e = absurd (let z : _≡_ {A = ℕ} 7 0 = e in omega arith)
+    own-told (some s) (opening k tree) f same e =
+        by-test (eqb (freeHandle s) 0)
+        (λ q. absurd (let z : _≡_ {A = ℕ} 14 0 = rw q at e in omega arith))
+        (λ q.
+        by-test (isTree (restriction tree))
+        (λ t.
+        rw (q, t, same)
+        (with-in s (freeHandle s) handle (some (opened (selectedBy (restriction tree) (src .rows)))) (free-handle s q) n))
+        (λ t. absurd (let z : _≡_ {A = ℕ} 16 0 = rw (q, t) at e in omega arith)))
+    own-told held (messaging k m room) f same e = own-message held k m room f same e
+
+-- whatever is known of a cursor, a call that is refused and one of another seat tell nothing
+pub cursor-unheard : {A : Type 0} (account : Account A) (seat handle : ℕ) (c : Call) (known : Option A) (a : Answer)
+    → accepted seat (seatOfCall c) a ≡ false → afterCall account seat handle known c a ≡ known
+cursor-unheard account seat handle (connecting k version) known a e = refl
+cursor-unheard account seat handle (opening k tree) known a e = rw e
+cursor-unheard account seat handle (messaging k m room) known a e = rw e
+
+cursor-follows : (src : Sources) (seat handle : ℕ) → Handle handle
+    → Follows src seat (λ held. cursorBy held handle) (afterCall (cursorAccount src) seat handle)
+cursor-follows src seat handle n =
+    record { unheard = cursor-unheard (cursorAccount src) seat handle; own = own-told src seat handle n }
 
 -- a call in any table, for any seat and handle
 pub step-told : (s t : List ℕ) (c : Call) (seat handle : ℕ) → seat < seats → Handle handle
     → heldCursor (step (sourcesOf s) t c .words) seat handle
-    ≡ afterCall (sourcesOf s) seat handle (heldCursor t seat handle) c (answerOf (step (sourcesOf s) t c))
+    ≡ afterCall (cursorAccount (sourcesOf s)) seat handle (heldCursor t seat handle) c (answerOf (step (sourcesOf s) t c))
 step-told s t c seat handle h n =
-    by-test (eqb (step (sourcesOf s) t c .refusal) 0)
-    (λ q. accept (eqb-true (step (sourcesOf s) t c .refusal) 0 q))
-    (λ q.
-    ap (λ (x : List ℕ). heldCursor x seat handle) (refused-leaves (sourcesOf s) t c (eqb-false (step (sourcesOf s) t c .refusal) 0 q) .words)
-    ∙ sym (unheard c (heldCursor t seat handle) (answerOf (step (sourcesOf s) t c)) (refused (eqb (seatOfCall c) seat) q)))
-  where
-    -- what is refused, and what another seat calls, tells nothing
-    refused : (b : Bool) → eqb (step (sourcesOf s) t c .refusal) 0 ≡ false → both b (eqb (step (sourcesOf s) t c .refusal) 0) ≡ false
-    refused true q = q
-    refused false q = refl
-
-    unheard : (d : Call) (o : Option Cursor) (a : Answer) → accepted seat (seatOfCall d) a ≡ false → afterCall (sourcesOf s) seat handle o d a ≡ o
-    unheard (connecting k version) o a e = refl
-    unheard (opening k tree) o a e = rw e
-    unheard (messaging k m room) o a e = rw e
-
-    accept : step (sourcesOf s) t c .refusal ≡ 0
-        → heldCursor (step (sourcesOf s) t c .words) seat handle
-        ≡ afterCall (sourcesOf s) seat handle (heldCursor t seat handle) c (answerOf (step (sourcesOf s) t c))
-    accept z =
-        let a = accepted-passes (sourcesOf s) t c z in
-        let l = step-alone s t (record { well = a .table-in; holds = a .rows-in }) c (a .seat-in) in
-        by-test (eqb (seatOfCall c) seat)
-        (λ q.
-        let same : seatOfCall c ≡ seat = eqb-true (seatOfCall c) seat q in
-        subst
-        (λ (j : ℕ). heldCursor (step (sourcesOf s) t c .words) j handle ≡ afterCall (sourcesOf s) j handle (heldCursor t j handle) c (answerOf (step (sourcesOf s) t c)))
-        same
-        (ap (λ (o : Option Seat). cursorBy o handle) (l .held)
-        ∙ own-told (sourcesOf s) (seatHeld t (seatOfCall c)) c (seat-ok t (a .table-in) (seatOfCall c) (a .seat-in)) handle n
-        (sym (ap (λ (x : Answer). x .refusal) (l .answer)) ∙ z)
-        ∙ ap (afterCall (sourcesOf s) (seatOfCall c) handle (heldCursor t (seatOfCall c) handle) c) (sym (l .answer))))
-        (λ q.
-        ap (λ (o : Option Seat). cursorBy o handle) (others-left s t c seat h (λ w. eqb-false (seatOfCall c) seat q (sym w)))
-        ∙ sym (unheard c (heldCursor t seat handle) (answerOf (step (sourcesOf s) t c)) (rw q)))
+    step-followed s seat (λ held. cursorBy held handle) (afterCall (cursorAccount (sourcesOf s)) seat handle) (cursor-follows (sourcesOf s) seat handle n) h t c
 
 -- any calls from any table: the cursor is what they and their answers tell, from the one before
 pub after-told : (s t : List ℕ) (calls : List Call) (seat handle : ℕ) → seat < seats → Handle handle
     → heldCursor (after (sourcesOf s) t calls) seat handle
     ≡ cursorTold (sourcesOf s) seat handle (heldCursor t seat handle) (history (sourcesOf s) t calls)
-unfolding after history cursorTold
-after-told s t [] seat handle h n = refl
-after-told s t (c ∷ calls) seat handle h n =
-    after-told s (step (sourcesOf s) t c .words) calls seat handle h n
-    ∙ ap (λ (o : Option Cursor). cursorTold (sourcesOf s) seat handle o (history (sourcesOf s) (step (sourcesOf s) t c .words) calls))
-    (step-told s t c seat handle h n)
+after-told s t calls seat handle h n =
+    after-followed s seat (λ held. cursorBy held handle) (afterCall (cursorAccount (sourcesOf s)) seat handle) (cursor-follows (sourcesOf s) seat handle n) h t calls

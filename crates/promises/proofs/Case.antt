@@ -31,7 +31,9 @@ use Rattle.message.specs.Message.{kindFrom, seatMessage}
 use Rattle.call.specs.Step.{Sources, sourcesOf, seatHeld}
 use Rattle.call.specs.Passing.{Passing}
 use Rattle.promises.specs.Calls.{Call, seatOfCall, step, Answer, Event, history, freshTable}
-use Rattle.promises.specs.Case.{caseCalls, caseEvents}
+use Rattle.promises.specs.Case.{caseCalls, caseEvents, caseNotes}
+use Rattle.promises.specs.Client.{told}
+use Rattle.promises.specs.Walk.{notesTold}
 use Rattle.promises.proofs.Reached.{step-passes, fresh-seat, fresh-passes}
 use Rattle.promises.proofs.Alone.{ownStep, step-alone}
 
@@ -64,3 +66,11 @@ whole-case =
     ∙ ap (λ (o : Option Seat). ownHistory (sourcesOf caseBytes) o caseCalls) (fresh-seat 0 (omega arith))
     ∙ ap (λ (src : Sources). ownHistory src none caseCalls) (ap (λ o. record { rows = o }) case-parses)
     ∙ computed
+
+-- so a client notes one page, whose reply is the 512 bytes
+pub case-noted : notesTold 0 1 (history (sourcesOf caseBytes) freshTable caseCalls) ≡ some caseNotes
+unfolding told numberAt number le setOurs everyBelow bindings columns column property value spot flag zeroBytes
+case-noted = ap (notesTold 0 1) whole-case ∙ noted
+  where
+    noted : notesTold 0 1 caseEvents ≡ some caseNotes
+    noted = refl

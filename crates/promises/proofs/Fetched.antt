@@ -1,8 +1,7 @@
--- Over any calls: the rows of a cursor's replies are the first rows of the selection that its opening made, and an accepted request
--- for rows carries the next ones. Assumes nothing.
+-- What an accepted request for rows sends, in any table; and that from the fresh table on a cursor is what the calls tell. Assumes nothing.
 use mathlib.Core.Path.{_≡_, refl, sym, ap, subst, _∙_}
 use mathlib.Core.Bool.{true}
-use mathlib.Core.List.{List, [], _++_}
+use mathlib.Core.List.{List, _++_}
 use mathlib.Core.Option.{Option, none, some}
 use Prim.Native.Nat.{ℕ, _≤_, _<_}
 use native.Mathlib.Omega.{arith}
@@ -12,6 +11,7 @@ use lib.ListN.{length}
 use Rattle.lists.proofs.Below.{by-test}
 use Rattle.catalogue.specs.Plain.{Row, catalogue, rowsOf}
 use Rattle.bindings.specs.Fit.{fit}
+use Rattle.bindings.proofs.Sound.{fit-sound}
 use Rattle.table.specs.Layout.{seats}
 use Rattle.table.specs.Seat.{Cursor, Seat, cursorIn}
 use Rattle.table.specs.Fits.{CursorFits, CursorOk, SeatOk}
@@ -24,35 +24,26 @@ use Rattle.message.specs.Message.{msgOf, handleOf, kindOf, kindFrom, served, se
 use Rattle.table.specs.Open.{isOpen}
 use Rattle.call.specs.Step.{Sources, sourcesOf, judging, seatHeld, sizing, messageStep}
 use Rattle.call.proofs.Seating.{seat-ok}
-use Rattle.promises.specs.Calls.{Call, messaging, step, answerOf, history, after, freshTable}
+use Rattle.promises.specs.Calls.{Call, messaging, step, history, after, freshTable}
 use Rattle.promises.specs.Client.{Handle, cursorTold, cursorBy, heldCursor}
-use Rattle.promises.specs.Rows.{rowsTold, firstRows, RowsReply, Sends, Carries}
+use Rattle.promises.specs.Rows.{RowsReply, Sends}
 use Rattle.promises.proofs.Refusals.{seat-refusal, accepted-passes}
 use Rattle.promises.proofs.Reached.{fresh-seat, reached-well}
 use Rattle.promises.proofs.Served.{cursor-ok, fetching}
 use Rattle.promises.proofs.Replies.{rows-held, reply-is}
 use Rattle.promises.proofs.Carried.{open-handle, accepted-kind, after-told}
-use Rattle.promises.proofs.Joined.{joined-first, page-further}
 
 -- the fresh table holds no cursor
 pub fresh-none : (seat handle : ℕ) → seat < seats → heldCursor freshTable seat handle ≡ none
 fresh-none seat handle h = ap (λ (o : Option Seat). cursorBy o handle) (fresh-seat seat h)
 
 -- from the fresh table on, every cursor is what the calls and their answers tell
-pub told : (s : List ℕ) (calls : List Call) (seat handle : ℕ) → seat < seats → Handle handle
+pub cursor-told : (s : List ℕ) (calls : List Call) (seat handle : ℕ) → seat < seats → Handle handle
     → heldCursor (after (sourcesOf s) freshTable calls) seat handle
     ≡ cursorTold (sourcesOf s) seat handle none (history (sourcesOf s) freshTable calls)
-told s calls seat handle h n =
+cursor-told s calls seat handle h n =
     after-told s freshTable calls seat handle h n
     ∙ ap (λ (o : Option Cursor). cursorTold (sourcesOf s) seat handle o (history (sourcesOf s) freshTable calls)) (fresh-none seat handle h)
-
--- and the rows of its replies joined are the first rows of its selection, as many as its position says
-pub joined : (s : List ℕ) (calls : List Call) (seat handle : ℕ) → seat < seats → Handle handle
-    → rowsTold (sourcesOf s) seat handle none [] (history (sourcesOf s) freshTable calls)
-    ≡ firstRows (heldCursor (after (sourcesOf s) freshTable calls) seat handle)
-joined s calls seat handle h n =
-    joined-first (sourcesOf s) seat handle none (history (sourcesOf s) freshTable calls)
-    ∙ ap firstRows (sym (told s calls seat handle h n))
 
 -- an accepted request for rows, on its seat
 pub record Served (rows : List Row) (held : Option Seat) (m : List ℕ) : Type 0 where
@@ -114,6 +105,7 @@ sends s rows e t seat m room z g =
         asked = v .asked;
         held = v .holds;
         body = v .body;
+        bound = fit-sound (v .cursor .width) (v .cursor .columns) (v .bound);
         says =
             subst (RowsReply rows (v .cursor) (v .asked))
             (sym (b .1 ∙ v .reply ∙ ap (λ (o : Option (List Row)). fetchReply (rowsOf o) (v .cursor) (v .asked)) e))
@@ -122,29 +114,6 @@ sends s rows e t seat m room z g =
       v .handle,
     )
 
--- demand 3: after any calls of all seats, an accepted request for rows carries the next rows of the selection that the cursor's opening
--- made, and says the end exactly where all are then carried
-pub carries : (s : List ℕ) (rows : List Row) → catalogue s ≡ some rows → (calls : List Call) (seat : ℕ) (m : List ℕ) (room : ℕ)
-    → let t = after (sourcesOf s) freshTable calls in
-    step (sourcesOf s) t (messaging seat m room) .refusal ≡ 0 → msgOf m ≡ 0xCC
-    → Carries (sourcesOf s) rows (history (sourcesOf s) freshTable calls) seat m room (answerOf (step (sourcesOf s) t (messaging seat m room)))
-carries s rows e calls seat m room z g =
-    let t = after (sourcesOf s) freshTable calls in
-    let events = history (sourcesOf s) freshTable calls in
-    let h = accepted-passes (sourcesOf s) t (messaging seat m room) z .seat-in in
-    let v = sends s rows e t seat m room z g in
-    let cursor : cursorTold (sourcesOf s) seat (handleOf m) none events ≡ some (v .0 .cursor)
-    = sym (told s calls seat (handleOf m) h (v .1)) ∙ v .0 .held in
-    record {
-      cursor = v .0 .cursor;
-      asked = v .0 .asked;
-      told = cursor;
-      body = v .0 .body;
-      before = joined-first (sourcesOf s) seat (handleOf m) none events ∙ ap firstRows cursor;
-      says = v .0 .says;
-      joined = page-further (sourcesOf s) events seat m room (answerOf (step (sourcesOf s) t (messaging seat m room))) (v .0 .cursor) z g cursor;
-    }
-
 -- a cursor that is told has carried no more rows than its selection has, and no row stands in its selection twice
 pub told-fits : (s : List ℕ) (calls : List Call) (seat handle : ℕ) → seat < seats → Handle handle → (c : Cursor)
     → cursorTold (sourcesOf s) seat handle none (history (sourcesOf s) freshTable calls) ≡ some c
@@ -152,7 +121,7 @@ pub told-fits : (s : List ℕ) (calls : List Call) (seat handle : ℕ) → seat 
 told-fits s calls seat handle h n c e =
     let t = after (sourcesOf s) freshTable calls in
     let f : CursorFits c
-    = subst CursorOk (told s calls seat handle h n ∙ e) (held-ok (seatHeld t seat) (seat-ok t (reached-well s calls) seat h)) in
+    = subst CursorOk (cursor-told s calls seat handle h n ∙ e) (held-ok (seatHeld t seat) (seat-ok t (reached-well s calls) seat h)) in
     (f .position, f .rising)
   where
     held-ok : (o : Option Seat) → SeatOk o → CursorOk (cursorBy o handle)

@@ -6,10 +6,13 @@ pub mod Alone
 pub mod Isolated
 pub mod Served
 pub mod Replies
+pub mod Followed
 pub mod Carried
-pub mod Joined
 pub mod Fetched
+pub mod Connected
 pub mod Opened
+pub mod Walked
+pub mod Chained
 pub mod Done
 pub mod Numbers
 pub mod Case

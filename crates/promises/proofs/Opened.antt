@@ -23,10 +23,11 @@ use Rattle.call.specs.Step.{Sources, sourcesOf, Outcome, rowsHold, judging, sea
 use Rattle.call.proofs.Causes.{judging-numbered}
 use Rattle.call.proofs.Opening.{closed}
 use Rattle.promises.specs.Calls.{opening, step, Answer, answerOf}
-use Rattle.promises.specs.Client.{afterCall, cursorBy, heldCursor}
+use Rattle.promises.specs.Client.{afterCall, cursorAccount, versionOf, cursorBy, heldCursor}
 use Rattle.promises.specs.Opens.{Opens}
 use Rattle.promises.proofs.Refusals.{refusal-is, accepted-passes}
 use Rattle.promises.proofs.Carried.{free-handle, step-told}
+use Rattle.promises.proofs.Connected.{version-step}
 
 -- what an opening that is accepted has
 record Admitted (s t : List ℕ) (seat : ℕ) (bytes : List ℕ) : Type 0 where
@@ -91,7 +92,7 @@ lowest k e =
     (λ q. rw q (closed (k .first) q, inl refl))
 
 begun : (src : Sources) (seat : ℕ) (tree : List ℕ) (a : Answer) (c : Option Cursor) → a .refusal ≡ 0
-    → afterCall src seat (a .handle) c (opening seat tree) a ≡ some (opened (selectedBy (restriction tree) (src .rows)))
+    → afterCall (cursorAccount src) seat (a .handle) c (opening seat tree) a ≡ some (opened (selectedBy (restriction tree) (src .rows)))
 begun src seat tree a c e = rw (eq-eqb seat seat refl, eq-eqb (a .refusal) 0 e, eq-eqb (a .handle) (a .handle) refl)
 
 pub opens : (s t : List ℕ) (seat : ℕ) (bytes : List ℕ) → step (sourcesOf s) t (opening seat bytes) .refusal ≡ 0
@@ -109,12 +110,12 @@ opens s t seat bytes z =
       selection = selection (x .tree) (x .rows);
       parsed = x .parsed;
       read = x .read;
-      has = selection-has (x .tree) (x .rows) _;
-      rises = selection-rises (x .tree) (x .rows);
+      selects = record { has = selection-has (x .tree) (x .rows) _; rises = selection-rises (x .tree) (x .rows) };
       free = by (o .handle) ∙ ap (cursorIn (x .held)) (x .given) ∙ l .0;
       lowest =
           subst (λ (h : ℕ). (h ≡ 1) ⊎ ((h ≡ 2) × (heldCursor t seat 1 ≡ none → ⊥))) (sym (x .given))
           (subst (λ (c : Option Cursor). (freeHandle (x .held) ≡ 1) ⊎ ((freeHandle (x .held) ≡ 2) × (c ≡ none → ⊥))) (sym (by 1)) (l .1));
+      version = (x .held, x .holds, version-step s t (opening seat bytes) seat (a .seat-in) ∙ ap versionOf (x .holds));
       cursor =
           step-told s t (opening seat bytes) seat (o .handle) (a .seat-in) n
           ∙ begun (sourcesOf s) seat bytes (answerOf o) (heldCursor t seat (o .handle)) z

@@ -20,7 +20,7 @@ use Rattle.query.specs.Open.{openCauses}
 use Rattle.call.specs.Step.{Sources, judging, seatHeld, isConnected, sizing, connectCauses, connectStep, messageStep, openDone, openStep}
 use Rattle.call.proofs.Causes.{Passes, passes, judging-numbered}
 use Rattle.promises.specs.Calls.{Call, connecting, opening, messaging, seatOfCall, step}
-use Rattle.promises.specs.Causes.{causesOf, Given, NoneApplies, Risen}
+use Rattle.promises.specs.Causes.{causesOn, causesOf, Given, NoneApplies, Risen}
 use Rattle.promises.proofs.First.{exact, exact-none, risen-numbered}
 
 -- the causes of each call rise by number: none stands twice, none is 0, and those of a seat are above 5
@@ -49,11 +49,16 @@ open-rise : (held : Option Seat) (tree : List ℕ) → Risen 3 (openCauses held 
 open-rise none tree = (omega arith, tt)
 open-rise (some s) tree = (omega arith, (omega arith, (omega arith, tt)))
 
+on-seat-rise : (src : Sources) (held : Option Seat) (c : Call) → Risen 3 (causesOn src held c)
+on-seat-rise src held (connecting seat version) = (omega arith, tt)
+on-seat-rise src held (opening seat tree) = open-rise held tree
+on-seat-rise src held (messaging seat m room) = (omega arith, (omega arith, seat-rise (rowsOf (src .rows)) held m))
+
+pub on-seat-numbered : (src : Sources) (held : Option Seat) (c : Call) → Numbered (causesOn src held c)
+on-seat-numbered src held c = risen-numbered 3 (causesOn src held c) (on-seat-rise src held c)
+
 pub causes-rise : (src : Sources) (t : List ℕ) (c : Call) → Risen 0 (causesOf src t c)
-causes-rise src t (connecting seat version) = (omega arith, (omega arith, (omega arith, (omega arith, tt))))
-causes-rise src t (opening seat tree) = (omega arith, (omega arith, (omega arith, open-rise (seatHeld t seat) tree)))
-causes-rise src t (messaging seat m room) =
-    (omega arith, (omega arith, (omega arith, (omega arith, (omega arith, seat-rise (rowsOf (src .rows)) (seatHeld t seat) m)))))
+causes-rise src t c = (omega arith, (omega arith, (omega arith, on-seat-rise src (seatHeld t (seatOfCall c)) c)))
 
 pub causes-numbered : (src : Sources) (t : List ℕ) (c : Call) → Numbered (causesOf src t c)
 causes-numbered src t c = risen-numbered 0 (causesOf src t c) (causes-rise src t c)

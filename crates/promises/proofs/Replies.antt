@@ -3,7 +3,7 @@
 use mathlib.Core.Path.{_≡_, refl, sym, ap, ap₂, subst, _∙_}
 use mathlib.Core.Bool.{true}
 use mathlib.Core.List.{List, [], _∷_, map}
-use mathlib.Core.Logic.{_↔_, _⊎_, inl, inr}
+use mathlib.Core.Logic.{_↔_, _⊎_, inl, inr, ⊎-elim}
 use mathlib.Core.Option.{none, some}
 use Prim.Native.Nat.{ℕ, zero, suc, _+_, _*_, _≤_, _<_}
 use native.Mathlib.Nat.{not-suc-le-zero, le-of-suc-le-suc}
@@ -30,7 +30,7 @@ use Rattle.page.specs.Reads.{rowPlace, blockPlace, Held, Reads, HeadReads}
 use Rattle.page.proofs.Head.{held-seen}
 use Rattle.page.proofs.ReadBack.{reads-back}
 use Rattle.page.proofs.Reply.{page-inside, page-clear, page-zero, bytes-length}
-use Rattle.fetch.specs.Fetch.{remaining, sent, rowsSent, thenLeft, fetchReply}
+use Rattle.fetch.specs.Fetch.{numbered, remaining, sent, rowsSent, thenLeft, fetchReply}
 use Rattle.promises.specs.Rows.{countIn, statusIn, pageNumbers, pageRows, RowsReply}
 use Rattle.promises.proofs.Served.{bytes-are, inside, greatest, sent-most, room, reply-head, count-read, status-read}
 
@@ -195,3 +195,24 @@ module _ (rows : List Row) (held : (i property : ℕ) → Held (fieldOf property
             ∙ page-zero (q .size) (q .from) (c .width) (q .base) (statusIn reply) (c .columns) (pageRows rows c reply) bound (sound .from-least) has-room
             (replicate (q .size) 0) long i h o;
       }
+
+-- a reply is decided: any two that say all this of one cursor and one request are the same bytes
+pub reply-once : (rows : List Row) (c : Cursor) (q : Request) (reply other : List ℕ) → RowsReply rows c q reply → RowsReply rows c q other → reply ≡ other
+reply-once rows c q reply other a b =
+    let count : countIn reply ≡ countIn other
+    = omega (arith, b .most (countIn reply) (a .wanted) (a .left) (a .fits), a .most (countIn other) (b .wanted) (b .left) (b .fits)) in
+    let then = ap (λ (n : ℕ). c .position + n) count in
+    let status : statusIn reply ≡ statusIn other
+    = ⊎-elim
+    (λ (e : statusIn reply ≡ endOfRows). e ∙ sym (b .ends .1 (sym then ∙ a .ends .0 e)))
+    (λ (e : statusIn reply ≡ 0).
+    ⊎-elim
+    (λ (f : statusIn other ≡ endOfRows). a .ends .1 (then ∙ b .ends .0 f) ∙ sym f)
+    (λ (f : statusIn other ≡ 0). e ∙ sym f)
+    (b .else))
+    (a .else) in
+    a .bytes
+    ∙ ap₂
+    (λ (s n : ℕ). pageBytes (q .size) (q .from) (c .width) (q .base) s (c .columns) (numbered rows (take n (drop (c .position) (c .selection)))))
+    status count
+    ∙ sym (b .bytes)

@@ -16,7 +16,7 @@ use Rattle.query.specs.Open.{openCauses}
 use Rattle.call.specs.Step.{Sources, judging, seatHeld, sizing, connectCauses, connectStep, messageStep, openDone, openStep}
 use Rattle.call.proofs.Unchanged.{connect-unchanged, open-unchanged, message-unchanged}
 use Rattle.promises.specs.Calls.{Call, connecting, opening, messaging, step}
-use Rattle.promises.specs.Causes.{refusalReply, Refused}
+use Rattle.promises.specs.Causes.{OwnAnswer, refusalReply, Refused}
 use Rattle.promises.proofs.First.{first-over}
 use Rattle.promises.proofs.Refusals.{done-by, seat-rise}
 
@@ -32,6 +32,15 @@ open-quiet src t seat tree =
     done : (held : Option Seat) → openDone src t seat tree held .reply ≡ []
     done none = refl
     done (some s) = refl
+
+-- a call answers what its kind does, and nothing else
+pub own-answer : (src : Sources) (t : List ℕ) (c : Call) → OwnAnswer c (step src t c)
+unfolding connectStep messageStep
+own-answer src t (connecting seat version) =
+    (by-test (eqb (firstCause (connectCauses src t seat)) 0) (λ q. rw q) (λ q. rw q), connect-quiet src t seat version)
+own-answer src t (opening seat tree) = open-quiet src t seat tree
+own-answer src t (messaging seat m room) =
+    by-test (eqb (firstCause (judging src t seat ++ sizing m room)) 0) (λ q. rw q) (λ q. rw q)
 
 -- a header, of a number above 5
 seat-header : (rows : List Row) (held : Option Seat) (m : List ℕ) (seat room : ℕ) → (seatMessage rows held m .refusal ≡ 0 → ⊥)

@@ -6,7 +6,8 @@ use Rattle.tree.specs.Examples.{related}
 use Rattle.page.specs.Examples.{caseReply}
 use Rattle.promises.specs.Calls.{Call, connecting, opening, messaging, Event}
 use Rattle.promises.specs.Numbers.{getRows}
-use Rattle.bindings.specs.Examples.{caseBindings}
+use Rattle.promises.specs.Walk.{Notes}
+use Rattle.bindings.specs.Examples.{caseColumns, caseBindings}
 
 -- a call with its answer
 abbrev pub event : Call → ℕ → ℕ → List ℕ → Event
@@ -33,3 +34,13 @@ caseEvents =
     ∷ event (messaging 0 caseBindings 16384) 0 0 (fourWords 0xD0 0 0 0)
     ∷ event (messaging 0 (getRows 512 0) 16384) 0 0 caseReply
     ∷ []
+
+-- what is then noted of handle 1: one page
+abbrev pub caseNotes : Notes
+caseNotes =
+    record {
+      tree = bothRows;
+      width = 24;
+      columns = caseColumns;
+      pages = record { message = getRows 512 0; width = 24; columns = caseColumns; reply = caseReply } ∷ [];
+    }

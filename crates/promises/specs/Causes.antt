@@ -6,20 +6,25 @@ use Prim.Native.Nat.{ℕ, _<_}
 use lib.Dec.{ltb}
 use lib.ListN.{length, getD}
 use Rattle.lists.specs.Below.{pick}
+use mathlib.Core.Option.{Option}
 use Rattle.wire.specs.Laid.{fourWords}
+use Rattle.table.specs.Seat.{Seat}
 use Rattle.refusal.specs.Refusal.{statusOf}
 use Rattle.catalogue.specs.Plain.{rowsOf}
 use Rattle.message.specs.Message.{msgOf, seatCauses}
 use Rattle.query.specs.Open.{openCauses}
-use Rattle.call.specs.Step.{Sources, Outcome, judging, seatHeld, sizing, connectCauses}
-use Rattle.promises.specs.Calls.{Call, connecting, opening, messaging}
+use Rattle.call.specs.Step.{Sources, Outcome, judging, seatHeld, isConnected, sizing}
+use Rattle.promises.specs.Calls.{Call, connecting, opening, messaging, seatOfCall}
 
--- every cause that the call judges, each its number and whether it applies
+-- what is judged of a call's arguments and of its seat, each cause its number and whether it applies
+abbrev pub causesOn : Sources → Option Seat → Call → List (ℕ × Bool)
+causesOn src held (connecting seat version) = (7, isConnected held) ∷ []
+causesOn src held (opening seat tree) = openCauses held tree
+causesOn src held (messaging seat m room) = sizing m room ++ seatCauses (rowsOf (src .rows)) held m
+
+-- every cause that the call judges
 abbrev pub causesOf : Sources → List ℕ → Call → List (ℕ × Bool)
-causesOf src t (connecting seat version) = connectCauses src t seat
-causesOf src t (opening seat tree) = judging src t seat ++ openCauses (seatHeld t seat) tree
-causesOf src t (messaging seat m room) =
-    judging src t seat ++ (sizing m room ++ seatCauses (rowsOf (src .rows)) (seatHeld t seat) m)
+causesOf src t c = judging src t (seatOfCall c) ++ causesOn src (seatHeld t (seatOfCall c)) c
 
 -- the i-th cause; past the end, one that does not apply
 abbrev pub cause : List (ℕ × Bool) → ℕ → ℕ × Bool
@@ -41,6 +46,13 @@ NoneApplies causes = (i : ℕ) → cause causes i .1 ≡ false
 abbrev pub Risen : ℕ → List (ℕ × Bool) → Type 0
 Risen n [] = Unit {0}
 Risen n (c ∷ causes) = (n < c .0) × Risen (c .0) causes
+
+-- "opening also [returns] the handle .., a message also its count of reply bytes", whether refused or not: no other call gives a handle,
+-- and none but a message writes
+abbrev pub OwnAnswer : Call → Outcome → Type 0
+OwnAnswer (connecting seat version) o = (o .handle ≡ 0) × (o .reply ≡ [])
+OwnAnswer (opening seat tree) o = o .reply ≡ []
+OwnAnswer (messaging seat m room) o = o .handle ≡ 0
 
 -- "Numbers 1 to 5 write nothing. From 6 on, where a message was sent, the reply is 16 bytes: _msg, the status, zero, zero."
 abbrev pub refusalReply : Call → ℕ → List ℕ

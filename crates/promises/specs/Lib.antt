@@ -4,6 +4,8 @@ pub mod Client
 pub mod Own
 pub mod Rows
 pub mod Opens
+pub mod Walk
+pub mod Chain
 pub mod Done
 pub mod Numbers
 pub mod Case

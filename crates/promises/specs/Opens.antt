@@ -12,9 +12,14 @@ use Rattle.tree.specs.Tree.{Tree}
 use Rattle.tree.specs.TreeHolds.{holds}
 use Rattle.tree.specs.Reader.{restriction}
 use Rattle.lists.specs.Rising.{Rises}
-use Rattle.table.specs.Seat.{opened}
-use Rattle.call.specs.Step.{Outcome}
-use Rattle.promises.specs.Client.{heldCursor}
+use Rattle.table.specs.Seat.{Seat, opened}
+use Rattle.call.specs.Step.{Outcome, seatHeld}
+use Rattle.promises.specs.Client.{versionOf, heldCursor}
+
+-- the numbers of the rows that a tree holds for, all of them and no others, rising
+pub record Selects (rows : List Row) (tree : Tree) (selection : List ℕ) : Type 0 where
+  pub has : (k : ℕ) → List·Memᴰ k selection ↔ ((k < length rows) × (holds tree (rowIn rows k) ≡ true))
+  pub rises : Rises selection
 
 pub record Opens (s t : List ℕ) (seat : ℕ) (bytes : List ℕ) (o : Outcome) : Type 0 where
   pub rows : List Row
@@ -22,11 +27,10 @@ pub record Opens (s t : List ℕ) (seat : ℕ) (bytes : List ℕ) (o : Outcome) 
   pub selection : List ℕ
   pub parsed : catalogue s ≡ some rows
   pub read : restriction bytes ≡ some tree
-  -- the numbers of the rows that the tree holds for, all of them and no others, rising
-  pub has : (k : ℕ) → List·Memᴰ k selection ↔ ((k < length rows) × (holds tree (rowIn rows k) ≡ true))
-  pub rises : Rises selection
+  pub selects : Selects rows tree selection
   -- the lowest free handle
   pub free : heldCursor t seat (o .handle) ≡ none
   pub lowest : (o .handle ≡ 1) ⊎ ((o .handle ≡ 2) × (heldCursor t seat 1 ≡ none → ⊥))
-  -- a cursor on that selection, at position 0 and without bindings
+  -- the seat stays connected with its version, and has a cursor on that selection, at position 0 and without bindings
+  pub version : (k : Seat) × (seatHeld t seat ≡ some k) × (versionOf (seatHeld (o .words) seat) ≡ some (k .version))
   pub cursor : heldCursor (o .words) seat (o .handle) ≡ some (opened selection)

@@ -23,6 +23,7 @@ use Rattle.tree.proofs.SelectLaws as Laws
 use Rattle.table.specs.Layout.{cursorSize, rowsSize}
 use Rattle.lists.specs.Parts.{put, zeros}
 use Rattle.table.specs.Seat.{Seat, cursorWords, seatIn, seatOf, opened}
+use Rattle.table.specs.declared.Handle.{Handle}
 use Rattle.table.proofs.Tables.{put-length}
 use Rattle.table.proofs.Writes.{opened-words}
 use Rattle.refusal.specs.Refusal.{firstCause}
@@ -42,31 +43,33 @@ pub free-none : (s : Seat) → isOpen (s .first) ≡ true → isOpen (s .second)
 free-none s e f = rw (e, f)
 
 -- refusals 7, 14 and 16
-refused-by : (held : Option Seat) (tree : List ℕ) (n : ℕ) → firstCause (openCauses held tree) ≡ n → (n ≡ 0 → ⊥) → Judged held tree (record { refusal = n; handle = 0 })
-refused-by held tree n e z = record { refused = sym e; given = λ w. absurd (z w); none-given = λ w. refl }
+refused-by : (held : Option Seat) (tree : List ℕ) (n : ℕ) (h : Handle) → h .0 ≡ 0 → firstCause (openCauses held tree) ≡ n → (n ≡ 0 → ⊥)
+    → Judged held tree (record { refusal = n; handle = h })
+refused-by held tree n h f e z = record { refused = sym e; given = λ w. absurd (z w); none-given = λ w. f }
 
 module _ (b tree : List ℕ) where
-  pub open-gone : getD b 0 0 ≡ 0 → Judged (seatOf b) tree (record { refusal = 7; handle = 0 })
+  pub open-gone : (h : Handle) → h .0 ≡ 0 → getD b 0 0 ≡ 0 → Judged (seatOf b) tree (record { refusal = 7; handle = h })
   unfolding firstCause
-  open-gone e = refused-by (seatOf b) tree 7 (rw (eq-eqb (getD b 0 0) 0 e)) (λ z. omega arith)
+  open-gone h f e = refused-by (seatOf b) tree 7 h f (rw (eq-eqb (getD b 0 0) 0 e)) (λ z. omega arith)
 
   module _ (o : getD b 0 0 ≡ 0 → ⊥) where
     held : seatOf b ≡ some (seatIn b)
     held = rw (ne-eqb (getD b 0 0) 0 o)
 
-    pub open-full : freeHandle (seatIn b) ≡ 0 → Judged (seatOf b) tree (record { refusal = 14; handle = 0 })
+    pub open-full : (h : Handle) → h .0 ≡ 0 → freeHandle (seatIn b) ≡ 0 → Judged (seatOf b) tree (record { refusal = 14; handle = h })
     unfolding firstCause
-    open-full e =
-        refused-by (seatOf b) tree 14 (ap (λ (s : Option Seat). firstCause (openCauses s tree)) held ∙ rw (eq-eqb (freeHandle (seatIn b)) 0 e)) (λ z. omega arith)
+    open-full h f e =
+        refused-by (seatOf b) tree 14 h f (ap (λ (s : Option Seat). firstCause (openCauses s tree)) held ∙ rw (eq-eqb (freeHandle (seatIn b)) 0 e)) (λ z. omega arith)
 
-    pub open-bad : (freeHandle (seatIn b) ≡ 0 → ⊥) → isTree (restriction tree) ≡ false → Judged (seatOf b) tree (record { refusal = 16; handle = 0 })
+    pub open-bad : (h : Handle) → h .0 ≡ 0 → (freeHandle (seatIn b) ≡ 0 → ⊥) → isTree (restriction tree) ≡ false
+        → Judged (seatOf b) tree (record { refusal = 16; handle = h })
     unfolding firstCause
-    open-bad e f =
-        refused-by (seatOf b) tree 16
+    open-bad h z e f =
+        refused-by (seatOf b) tree 16 h z
         (ap (λ (s : Option Seat). firstCause (openCauses s tree)) held ∙ rw (ne-eqb (freeHandle (seatIn b)) 0 e, f))
         (λ z. omega arith)
 
-    pub open-free : (handle : ℕ) → handle ≡ freeHandle (seatIn b) → (handle ≡ 0 → ⊥) → isTree (restriction tree) ≡ true
+    pub open-free : (handle : Handle) → handle .0 ≡ freeHandle (seatIn b) → (handle .0 ≡ 0 → ⊥) → isTree (restriction tree) ≡ true
         → Judged (seatOf b) tree (record { refusal = 0; handle = handle })
     unfolding firstCause
     open-free handle h e f =

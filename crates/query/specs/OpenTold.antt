@@ -16,5 +16,5 @@ handleFor (some s) = freeHandle s
 -- the first of refusals 7, 14 and 16; where none applies, the lowest free handle, else 0
 pub record Judged (held : Option Seat) (tree : List ℕ) (r : Opened) : Type 0 where
   pub refused : r .refusal ≡ firstCause (openCauses held tree)
-  pub given : r .refusal ≡ 0 → r .handle ≡ handleFor held
-  pub none-given : (r .refusal ≡ 0 → ⊥) → r .handle ≡ 0
+  pub given : r .refusal ≡ 0 → r .handle .0 ≡ handleFor held
+  pub none-given : (r .refusal ≡ 0 → ⊥) → r .handle .0 ≡ 0

@@ -12,19 +12,20 @@ ghost use Rattle.tree.specs.Reader.{restriction, isTree};
 ghost use Rattle.tree.specs.Select.{selected};
 ghost use Rattle.tree.specs.SelectReady.{NotedReady};
 use query::Opened;
+use table::Handle;
 
 // The lowest free handle, or 0.
-fn free_handle(seat: &[u32]) -> u32
+fn free_handle(seat: &[u32]) -> Handle
     requires { ⌜ length (now seat) ≡ seatSize ⌝ }
-    ensures { λ r. ⌜ r ≡ freeHandle (seatIn (now (seat .entry))) ⌝ }
+    ensures { λ r. ⌜ r .0 ≡ freeHandle (seatIn (now (seat .entry))) ⌝ }
 {
-    if !table_handle::is_open(seat, 1) {
-        return 1;
+    if !table_handle::is_open(seat, Handle(1)) {
+        return Handle(1);
     }
-    if !table_handle::is_open(seat, 2) {
-        return 2;
+    if !table_handle::is_open(seat, Handle(2)) {
+        return Handle(2);
     }
-    0
+    Handle(0)
 }
 
 // Refusals 7, 14 and 16 on a seat's words, or the handle to open.
@@ -35,20 +36,20 @@ pub fn judge(seat: &[u32], tree: &[u8]) -> Opened
     if seat[table::CONNECTED] == 0 {
         return Opened {
             refusal: 7,
-            handle: 0,
+            handle: Handle(0),
         };
     }
     let handle = free_handle(seat);
-    if handle == 0 {
+    if handle.0 == 0 {
         return Opened {
             refusal: 14,
-            handle: 0,
+            handle: Handle(0),
         };
     }
     if !tree_read::well_formed(tree) {
         return Opened {
             refusal: 16,
-            handle: 0,
+            handle: Handle(0),
         };
     }
     Opened { refusal: 0, handle }
@@ -79,15 +80,15 @@ fn fill(
 // The same in a seat's words, under a handle.
 pub fn open(
     seat: &mut [u32],
-    handle: u32,
+    handle: Handle,
     tree: &[u8],
     catalogue: &[u8],
     rows: u32,
     places: &[u32; catalogue::ROWS_MOST],
 )
-    requires { ⌜ (length (now seat) ≡ seatSize) × (part (now seat) (cursorPlace handle) cursorSize ≡ cursorWords none)
+    requires { ⌜ (length (now seat) ≡ seatSize) × (part (now seat) (cursorPlace (handle .0)) cursorSize ≡ cursorWords none)
         × (isTree (restriction (now tree)) ≡ true) × NotedReady (now catalogue) rows (now places) ⌝ }
-    ensures { λ _. ⌜ now (seat .exit) ≡ put (now (seat .entry)) (cursorPlace handle) cursorSize
+    ensures { λ _. ⌜ now (seat .exit) ≡ put (now (seat .entry)) (cursorPlace (handle .0)) cursorSize
         (cursorWords (some (opened (selected (now (tree .entry)) (now (catalogue .entry)))))) ⌝ }
 {
     let at = table_handle::cursor_at(handle);

@@ -40,7 +40,7 @@ pub const ROWS: usize = 50;
 
 pub const ROWS_SIZE: u32 = 1024;
 
-// A seat and a cursor's handle: types of their own, as a row's number is (`page::Row`), so that none can stand for another.
+// A seat and a cursor's handle: types of their own, as a row's number is (`catalogue::Row`), so that none can stand for another.
 pub struct Seat(pub u32);
 
 pub struct Handle(pub u32);

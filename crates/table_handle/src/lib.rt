@@ -4,16 +4,17 @@ ghost use lib.ListN.{length};
 ghost use Rattle.table.specs.Layout.{seatSize, cursorPlace};
 ghost use Rattle.table.specs.Seat.{cursorIn, seatIn};
 ghost use Rattle.table.specs.Open.{isOpen, stillOpen};
+use table::Handle;
 
 // Whether a handle is open.
-pub fn is_open(seat: &[u32], handle: u32) -> bool
+pub fn is_open(seat: &[u32], handle: Handle) -> bool
     requires { ⌜ length (now seat) ≡ seatSize ⌝ }
-    ensures { λ r. ⌜ r ≡ isOpen (cursorIn (seatIn (now (seat .entry))) handle) ⌝ }
+    ensures { λ r. ⌜ r ≡ isOpen (cursorIn (seatIn (now (seat .entry))) (handle .0)) ⌝ }
 {
-    if handle == 1 {
+    if handle.0 == 1 {
         return seat[table::FIRST] != 0;
     }
-    if handle == 2 {
+    if handle.0 == 2 {
         return seat[table::SECOND] != 0;
     }
     false
@@ -24,8 +25,8 @@ pub fn open_count(seat: &[u32]) -> u32
     requires { ⌜ length (now seat) ≡ seatSize ⌝ }
     ensures { λ r. ⌜ r ≡ stillOpen (seatIn (now (seat .entry))) ⌝ }
 {
-    let first = is_open(seat, 1);
-    let second = is_open(seat, 2);
+    let first = is_open(seat, Handle(1));
+    let second = is_open(seat, Handle(2));
     if first {
         if second {
             return 2;
@@ -39,10 +40,10 @@ pub fn open_count(seat: &[u32]) -> u32
 }
 
 // The place of a handle's cursor.
-pub fn cursor_at(handle: u32) -> usize
-    ensures { λ r. ⌜ r ≡ cursorPlace handle ⌝ }
+pub fn cursor_at(handle: Handle) -> usize
+    ensures { λ r. ⌜ r ≡ cursorPlace (handle .0) ⌝ }
 {
-    if handle == 1 {
+    if handle.0 == 1 {
         return table::FIRST;
     }
     table::SECOND

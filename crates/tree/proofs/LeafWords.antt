@@ -30,7 +30,7 @@ pick-is : (b : Bool) (n : ℕ) → 0 < pick b n 0 → pick b n 0 ≡ n
 pick-is true n h = refl
 pick-is false n h = absurd (omega (arith, h))
 
-property-is : (s : List ℕ) (at : ℕ) → 0 < propertyAt s at → propertyAt s at ≡ numberAt 4 s (at + 20)
+pub property-is : (s : List ℕ) (at : ℕ) → 0 < propertyAt s at → propertyAt s at ≡ numberAt 4 s (at + 20)
 unfolding propertyAt
 property-is s at h =
     let inner = pick (setOurs s at) (numberAt 4 s (at + 20)) 0 in
@@ -52,7 +52,7 @@ relation-words s p used e =
     (leb-true 44 (length s) (both-left _ (both served typed) (i .0)), rw (← a, property-is s 12 (omega (arith, l))), sym b)
 
 -- a content leaf in words: where its count stands, its units end, and its locale stands
-phrase-words : (s : List ℕ) (place start count next : ℕ) → phraseAt s place 32 ≡ PhraseTo start count next
+pub phrase-words : (s : List ℕ) (place start count next : ℕ) → phraseAt s place 32 ≡ PhraseTo start count next
     → (start ≡ countAt place + 4) × (count ≡ numberAt 4 s (countAt place)) × (next ≡ localeAt s place)
 unfolding phraseAt
 phrase-words s place start count next e =

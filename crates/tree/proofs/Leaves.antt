@@ -1,37 +1,43 @@
--- A leaf that is read at a place of a tree's bytes has its words at fixed distances from the place: no other byte decides what it says.
--- Assumes nothing.
-use mathlib.Core.Path.{_≡_, sym, ap, _∙_}
+-- A leaf that is read has its words at fixed distances from its first byte: no other byte decides what it says. Assumes nothing.
+use mathlib.Core.Path.{_≡_}
 use mathlib.Core.Bool.{Bool}
 use mathlib.Core.List.{List}
-use mathlib.Core.Option.{Option}
-use Prim.Native.Nat.{ℕ, _+_, _-_, _*_, _≤_, _<_}
+use Prim.Native.Nat.{ℕ, _+_, _-_, _*_, _%_, _≤_}
+use native.Mathlib.Nat.{zero-add}
 use native.Mathlib.Omega.{arith}
-use borrow.Author.Tests.{eq-eqb, ne-eqb}
+use borrow.Author.Tests.{eq-eqb, ne-eqb, eqb-true, eqb-false}
 use lib.Dec.{eqb}
-use lib.ListN.{length, take, drop, length-drop}
-use lib.Seq.{drop-drop}
-use Rattle.wire.specs.Word.{number, numberAt, halves}
+use lib.ListN.{length, take, drop}
+use Rattle.wire.specs.Word.{numberAt, halves}
 use Rattle.lists.proofs.Below.{by-test}
 use Rattle.catalogue.specs.CataloguePlaces.{textOf, rowOf}
 use Rattle.catalogue.specs.declared.Text.{Text}
 use Rattle.catalogue.specs.declared.Fields.{Fields}
 use Rattle.wire.specs.Padding.{padding}
 use Rattle.wire.specs.Property.{ofTexts}
-use Rattle.tree.specs.LeafHolds.{phraseHolds, leafHolds}
-use Rattle.tree.specs.Parts.{contentAt, relationAt, leafOf}
+use Rattle.tree.specs.LeafHolds.{phraseHolds}
+use Rattle.tree.specs.Parts.{phraseAt, contentAt, relationAt, leafAt}
 use Rattle.tree.specs.declared.LeafAt.the-variants.{LeafTo, NoLeaf}
 use Rattle.tree.proofs.LeafLaws.{pick-inv, no-leaf}
 use Rattle.tree.proofs.LeafWords.{relation-words, content-words}
 use Rattle.tree.specs.VerdictTold.{told}
-use Rattle.tree.specs.LeafPlaces.{countAt, unitsEnd, localeAt}
+use Rattle.tree.specs.LeafPlaces.{localeAt}
 use Rattle.tree.specs.HoldTold.{relationTold, contentTold, leafTold}
 use Rattle.catalogue.specs.CatalogueReady.{FieldsReady, UnitsReady}
 use Rattle.tree.specs.HoldReady.{LeafReady}
 
--- a word of what is left from a place on
-pub word-from : (n : ℕ) (s : List ℕ) (at k : ℕ) → numberAt n (drop at s) k ≡ numberAt n s (at + k)
-unfolding numberAt
-word-from n s at k = ap (λ (t : List ℕ). number (take n t)) (drop-drop k at s)
+-- nodes begin at multiples of 4: padding after such a place is that after the first byte, and so is a leaf
+padding-anywhere : (place n : ℕ) → place % 4 ≡ 0 → padding 4 (place + n) ≡ padding 4 n
+padding-anywhere place n a = omega (arith, a)
+
+content-anywhere : (s : List ℕ) (place : ℕ) → place % 4 ≡ 0 → contentAt s place ≡ contentAt s 0
+unfolding contentAt phraseAt
+content-anywhere s place a =
+    let end = 36 + 2 * numberAt 4 s 32 in
+    rw (padding-anywhere place 32 a, padding-anywhere place end a, zero-add end)
+
+pub leaf-anywhere : (kind : ℕ) (s : List ℕ) (place : ℕ) → place % 4 ≡ 0 → leafAt kind s place ≡ leafAt kind s 0
+leaf-anywhere kind s place a = rw (content-anywhere s place a)
 
 -- the row's text that a property names lies inside
 pub text-inside : (held : List ℕ) (property : ℕ) (f : Fields) → FieldsReady held f → UnitsReady held (ofTexts property (f .label) (f .note))
@@ -42,72 +48,45 @@ text-named : (held : List ℕ) (property : ℕ) (label note : Text)
     → textOf held (ofTexts property label note) ≡ ofTexts property (textOf held label) (textOf held note)
 text-named held property label note = by-test (eqb property 5) (λ q. rw q) (λ q. rw q)
 
-content-same : {m m' e e' : ℕ} {u u' : List ℕ} {x x' : Option (List ℕ)} → m ≡ m' → u ≡ u' → x ≡ x' → e ≡ e'
-    → told (phraseHolds m u x) e ≡ told (phraseHolds m' u' x') e'
-content-same a b c d = rw (a, b, c, d)
-
 -- the places that the code counts, and what it finds there
-module _ (s : List ℕ) (at before count after : ℕ) (b : before ≡ padding 4 (at + 32)) (n : count ≡ numberAt 4 s (at + 32 + before)) (a : after ≡ padding 4 (at + 32 + before + 4 + 2 * count)) where
-  count-place : at + countAt at ≡ at + 32 + before
-  count-place = omega (arith, b)
+module _ (s : List ℕ) (count after : ℕ) (n : count ≡ numberAt 4 s 32) (a : after ≡ padding 4 (36 + 2 * count)) where
+  pub locale-counted : 36 + 2 * count + after ≡ localeAt s 0
+  locale-counted = rw (a, n, zero-add (36 + 2 * numberAt 4 s 32))
 
-  count-is : count ≡ numberAt 4 (drop at s) (countAt at)
-  count-is = n ∙ sym (word-from 4 s at (countAt at) ∙ ap (numberAt 4 s) count-place)
-
-  units-end : at + unitsEnd (drop at s) at ≡ at + 32 + before + 4 + 2 * count
-  units-end = omega (arith, count-place, count-is)
-
-  pub locale-counted : at + 32 + before + 4 + 2 * count + after ≡ at + localeAt (drop at s) at
-  locale-counted = omega (arith, a, units-end, ap (padding 4) units-end)
-
-  pub content-counted : (held : List ℕ) (f : Fields) (property method : ℕ) (text : Text) (h : Bool) → property ≡ numberAt 4 s (at + 28)
-      → method ≡ numberAt 4 s (at + 32 + before + 4 + 2 * count + after + 4) → text ≡ ofTexts property (f .label) (f .note)
-      → h ≡ phraseHolds method (halves (take (at + 32 + before + 4 + 2 * count - (at + 32 + before + 4)) (drop (at + 32 + before + 4) s))) (textOf held text)
-      → told h (at + 32 + before + 4 + 2 * count + after + 8) ≡ contentTold s at held f
+  pub content-counted : (held : List ℕ) (f : Fields) (property method : ℕ) (text : Text) (h : Bool) → property ≡ numberAt 4 s 28
+      → method ≡ numberAt 4 s (36 + 2 * count + after + 4) → text ≡ ofTexts property (f .label) (f .note)
+      → h ≡ phraseHolds method (halves (take (36 + 2 * count - 36) (drop 36 s))) (textOf held text)
+      → told h (36 + 2 * count + after + 8) ≡ contentTold s held f
   content-counted held f property method text h p m t e =
-      let d = drop at s in
-      let size : at + 32 + before + 4 + 2 * count - (at + 32 + before + 4) ≡ 2 * numberAt 4 d (countAt at) = omega (arith, count-is) in
-      let start : at + (countAt at + 4) ≡ at + 32 + before + 4 = omega (arith, count-place) in
-      let last : at + (localeAt d at + 4) ≡ at + 32 + before + 4 + 2 * count + after + 4 = omega (arith, locale-counted) in
-      let units : take (at + 32 + before + 4 + 2 * count - (at + 32 + before + 4)) (drop (at + 32 + before + 4) s)
-      ≡ take (2 * numberAt 4 d (countAt at)) (drop (countAt at + 4) d) = rw (size, drop-drop (countAt at + 4) at s, start) in
-      let named : textOf held text ≡ textOf held (ofTexts (numberAt 4 d 28) (f .label) (f .note)) = rw (t, p, word-from 4 s at 28) in
-      rw e
-      (content-same
-      (m ∙ sym (word-from 4 s at (localeAt d at + 4) ∙ ap (numberAt 4 s) last))
-      (ap halves units)
-      named
-      (omega (arith, locale-counted)))
+      let size : 36 + 2 * count - 36 ≡ 2 * numberAt 4 s 32 = omega (arith, n) in
+      rw (e, m, t, p, size, locale-counted)
 
--- what is left from a place on, where bytes are read past its start
-pub left-past : (n at : ℕ) (s : List ℕ) → 0 < n → n ≤ length (drop at s) → at + n ≤ length s
-left-past n at s p h = omega (arith, p, h, length-drop at s)
-
-module _ (kind : ℕ) (s : List ℕ) (at : ℕ) (held : List ℕ) (f : Fields) (w : LeafReady kind s at) where
-  pub leaf-is : leafTold kind s at (rowOf held f) ≡ told (leafHolds (rowOf held f) (leafOf (drop at s) (w .parts))) (at + w .used)
-  leaf-is = rw (w .read)
-
+module _ (kind : ℕ) (s : List ℕ) (w : LeafReady kind s) where
   module _ (k : (kind ≡ 4 → ⊥)) where
-    relation-read : relationAt (drop at s) ≡ LeafTo (w .parts) (w .used)
-    relation-read =
-        pick-inv (eqb kind 5) (relationAt (drop at s)) NoLeaf (LeafTo (w .parts) (w .used)) no-leaf (rw (ne-eqb kind 4 k) at (w .read)) .1
+    relation-read : relationAt s ≡ LeafTo (w .parts) (w .used)
+    relation-read = pick-inv (eqb kind 5) (relationAt s) NoLeaf (LeafTo (w .parts) (w .used)) no-leaf (rw (ne-eqb kind 4 k) at (w .read)) .1
 
-    pub relation-inside : at + 44 ≤ length s
-    relation-inside = left-past 44 at s (omega arith) (relation-words (drop at s) (w .parts) (w .used) relation-read .0)
+    pub relation-inside : 44 ≤ length s
+    relation-inside = relation-words s (w .parts) (w .used) relation-read .0
 
-    pub relation-is : relationTold s at f ≡ leafTold kind s at (rowOf held f)
-    relation-is = let r = relation-words (drop at s) (w .parts) (w .used) relation-read in sym (leaf-is ∙ rw (r .1, r .2))
+    pub relation-is : (held : List ℕ) (f : Fields) → relationTold s f ≡ leafTold kind s (rowOf held f)
+    relation-is held f = let r = relation-words s (w .parts) (w .used) relation-read in rw (w .read, r .1, r .2)
 
   module _ (k : kind ≡ 4) where
-    content-read : contentAt (drop at s) at ≡ LeafTo (w .parts) (w .used)
+    content-read : contentAt s 0 ≡ LeafTo (w .parts) (w .used)
     content-read = rw (eq-eqb kind 4 k) at (w .read)
 
-    pub content-inside : at + (localeAt (drop at s) at + 8) ≤ length s
-    content-inside =
-        left-past (localeAt (drop at s) at + 8) at s (omega arith) (content-words (drop at s) at (w .parts) (w .used) content-read .0)
+    pub content-inside : localeAt s 0 + 8 ≤ length s
+    content-inside = content-words s 0 (w .parts) (w .used) content-read .0
 
-    pub content-is : contentTold s at held f ≡ leafTold kind s at (rowOf held f)
-    content-is =
-        let d = drop at s in
-        let r = content-words d at (w .parts) (w .used) content-read in
-        rw (text-named held (numberAt 4 d 28) (f .label) (f .note)) (sym (leaf-is ∙ rw (r .1, r .2)))
+    pub content-is : (held : List ℕ) (f : Fields) → contentTold s held f ≡ leafTold kind s (rowOf held f)
+    content-is held f =
+        let r = content-words s 0 (w .parts) (w .used) content-read in
+        rw (text-named held (numberAt 4 s 28) (f .label) (f .note), w .read, r .1, r .2)
+
+-- a leaf takes a multiple of 4
+pub leaf-fours : (kind : ℕ) (s : List ℕ) (w : LeafReady kind s) → w .used % 4 ≡ 0
+leaf-fours kind s w =
+    by-test (eqb kind 4)
+    (λ q. omega (arith, content-words s 0 (w .parts) (w .used) (content-read kind s w (eqb-true kind 4 q)) .2))
+    (λ q. omega (arith, relation-words s (w .parts) (w .used) (relation-read kind s w (eqb-false kind 4 q)) .2))

@@ -3,8 +3,16 @@ pub mod PhraseVectors
 pub mod LeafLaws
 pub mod LeafWords
 pub mod TreeLaws
+pub mod FormLaws
+pub mod FieldForms
 pub mod Induction
+pub mod LeafWritten
+pub mod LeafRead
+pub mod TreeWritten
+pub mod TreeRead
 pub mod TreeFacts
+pub mod RoundTrip
+pub mod WriteBytes
 pub mod TreeVectors
 pub mod Leaves
 pub mod Nodes
@@ -12,3 +20,4 @@ pub mod WholeLaws
 pub mod Selection
 pub mod SelectLaws
 pub mod SelectVectors
+pub mod Numbered

@@ -9,7 +9,10 @@ use borrow.Author.Tests.{eqb-true, leb-true}
 use lib.Dec.{leb, eqb}
 use lib.ListN.{length, getD}
 use Rattle.lists.proofs.Options.{none≢some, some-is, then-inv}
+use Rattle.wire.specs.Padding.{padding}
+use Rattle.tree.specs.Parts.{nodeKind}
 use Rattle.tree.proofs.LeafLaws.{pick-inv}
+use Rattle.tree.proofs.LeafWords.{leaf-read}
 use Rattle.tree.specs.Limits.{bytesMost, nodesMost, levelsMost}
 use Rattle.lists.specs.Rising.{Rises, RisesIn}
 use Rattle.tree.specs.Tree.{Tree, positions, positionsIn, nodesOf, nodesIn, levelsOf, levelsIn}
@@ -42,23 +45,24 @@ held s t e =
 in-order : Said
 in-order =
     record {
-      ofTree = λ l n p r. RisesIn p (p + r .used) (positions (r .tree));
-      ofForest = λ l n p r. RisesIn p (p + r .used) (positionsIn (r .forest));
+      ofTree = λ l n p s r. RisesIn p (p + r .used) (positions (r .tree));
+      ofForest = λ l k n p s r. RisesIn p (p + r .used) (positionsIn (r .forest));
     }
 
 order-passes : Passes in-order
 unfolding in-order positions RisesIn
 order-passes =
     record {
-      none-left = λ l n p. omega arith;
-      one-more = λ l n p start t f a b.
+      none-left = λ l n p s. omega arith;
+      one-more = λ l k n p s t f h z a b.
+          let start = padding 4 p in
           rises-append p (p + (start + t .used)) (p + (start + t .used + f .used)) (positions (t .tree)) (positionsIn (f .forest))
           (rises-wider p (p + start) (p + start + t .used) (p + (start + t .used)) (positions (t .tree)) (omega arith) (omega arith) a)
           (rises-wider (p + (start + t .used)) (p + (start + t .used)) (p + (start + t .used) + f .used) (p + (start + t .used + f .used)) (positionsIn (f .forest)) (omega arith) (omega arith) b);
-      of-and = λ l n p t g used nodes o. rises-wider p (p + 12) (p + 12 + used) (p + (12 + used)) (positions t ++ positionsIn g) (omega arith) (omega arith) o;
-      of-or = λ l n p t g used nodes o. rises-wider p (p + 12) (p + 12 + used) (p + (12 + used)) (positions t ++ positionsIn g) (omega arith) (omega arith) o;
-      of-not = λ l n p t o. rises-wider p (p + 8) (p + 8 + t .used) (p + (8 + t .used)) (positions (t .tree)) (omega arith) (omega arith) o;
-      of-leaf = λ l n p x used h. (omega arith, omega arith);
+      of-and = λ l n p s t g used nodes h k o. rises-wider p (p + 12) (p + 12 + used) (p + (12 + used)) (positions t ++ positionsIn g) (omega arith) (omega arith) o;
+      of-or = λ l n p s t g used nodes h k o. rises-wider p (p + 12) (p + 12 + used) (p + (12 + used)) (positions t ++ positionsIn g) (omega arith) (omega arith) o;
+      of-not = λ l n p s t h k o. rises-wider p (p + 8) (p + 8 + t .used) (p + (8 + t .used)) (positions (t .tree)) (omega arith) (omega arith) o;
+      of-leaf = λ l n p s x used e. (omega arith, omega (arith, leaf-read (nodeKind s) s p x used e .past));
     }
 
 -- the positions of the leaves rise strictly, and each is the place of a byte of the tree
@@ -75,20 +79,20 @@ positions-rise s t e =
 counted : Said
 counted =
     record {
-      ofTree = λ l n p r. (nodesOf (r .tree) + r .nodes ≡ n) × (levelsOf (r .tree) ≤ l);
-      ofForest = λ l n p r. (nodesIn (r .forest) + r .nodes ≡ n) × (levelsIn (r .forest) ≤ l);
+      ofTree = λ l n p s r. (nodesOf (r .tree) + r .nodes ≡ n) × (levelsOf (r .tree) ≤ l);
+      ofForest = λ l k n p s r. (nodesIn (r .forest) + r .nodes ≡ n) × (levelsIn (r .forest) ≤ l);
     }
 
 count-passes : Passes counted
 unfolding counted nodesOf levelsOf
 count-passes =
     record {
-      none-left = λ l n p. (omega arith, omega arith);
-      one-more = λ l n p start t f a b. (omega (arith, a .0, b .0), omega (arith, a .1, b .1));
-      of-and = λ l n p t g used nodes o. (omega (arith, o .0), omega (arith, o .1));
-      of-or = λ l n p t g used nodes o. (omega (arith, o .0), omega (arith, o .1));
-      of-not = λ l n p t o. (omega (arith, o .0), omega (arith, o .1));
-      of-leaf = λ l n p x used h. (omega arith, omega arith);
+      none-left = λ l n p s. (omega arith, omega arith);
+      one-more = λ l k n p s t f h z a b. (omega (arith, a .0, b .0), omega (arith, a .1, b .1));
+      of-and = λ l n p s t g used nodes h k o. (omega (arith, o .0), omega (arith, o .1));
+      of-or = λ l n p s t g used nodes h k o. (omega (arith, o .0), omega (arith, o .1));
+      of-not = λ l n p s t h k o. (omega (arith, o .0), omega (arith, o .1));
+      of-leaf = λ l n p s x used e. (omega arith, omega arith);
     }
 
 -- "Limits: 4,096 bytes, 64 nodes, 8 levels (root is 1)"

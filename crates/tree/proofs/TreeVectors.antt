@@ -12,12 +12,11 @@ use Rattle.catalogue.specs.Writer.{unitBytes}
 use Rattle.tree.specs.Phrase.{occurs, occursAt, standsAt, startsWord, endsWord}
 use Rattle.tree.specs.Leaf.{content, relation}
 use Rattle.wire.specs.Padding.{zeroAt}
-use Rattle.wire.specs.PropertySpec.{setOurs, propertyAt}
+use Rattle.wire.specs.PropertySpec.{setOurs, propertyAt, spec}
 use Rattle.tree.specs.Parts.{phraseAt, contentAt, relationAt}
 use Rattle.tree.specs.Tree.{Tree, leaf, and, or, not, end, further}
 use Rattle.tree.specs.TreeHolds.{says, holds}
 use Rattle.tree.specs.Reader.{readList, readTree, restriction, isTree}
-use Rattle.wire.specs.Examples.{spec}
 use Rattle.tree.specs.Examples.{start, re-start, head, related, phrased, several, nots, times}
 
 -- a row whose label is "re start" and which has no note

@@ -5,7 +5,7 @@ use Rattle.tree.specs.Phrase.{space}
 use lib.ListN.{length}
 use Rattle.wire.specs.Word.{le}
 use Rattle.catalogue.specs.Writer.{unitBytes}
-use Rattle.wire.specs.Examples.{spec}
+use Rattle.wire.specs.PropertySpec.{spec}
 
 -- "start", "starting", "restart", "re start", "re starting start" and "a re start b", as units
 abbrev pub start : List ℕ

@@ -1,11 +1,11 @@
--- What the code says of a leaf, of a node and of a list of nodes: of a leaf, what the words at its place say.
+-- What the code says of a leaf, of a node and of a list of nodes, handed the unread bytes from its first one on. Nodes begin at multiples of
+-- 4, so that their padding counts from their own first byte: no place is handed on with the bytes.
 -- proofs/Leaves.antt shows that these are the words of the leaf that is read there.
 use mathlib.Core.Path.{_≡_}
 use mathlib.Core.Bool.{Bool}
 use mathlib.Core.List.{List}
 use mathlib.Core.Option.{some}
-use Prim.Native.Nat.{ℕ, _+_}
-use lib.ListN.{drop}
+use Prim.Native.Nat.{ℕ, _+_, _%_}
 use Rattle.catalogue.specs.Plain.{Row}
 use Rattle.catalogue.specs.CataloguePlaces.{textOf}
 use Rattle.catalogue.specs.declared.Fields.{Fields}
@@ -23,28 +23,28 @@ use Rattle.tree.specs.Reader.{TreeRead, Read, branchRead, readTree}
 abbrev pub relationSays : Relation → Fields → Bool
 relationSays r f = relationHolds (r .relop) (ofNumbers (r .property) (f .key) (f .language) (f .default)) (r .value)
 
-abbrev pub relationTold : List ℕ → ℕ → Fields → ℕ
-relationTold s at f = told (relationSays (relationIn (drop at s)) f) (at + 44)
+abbrev pub relationTold : List ℕ → Fields → ℕ
+relationTold s f = told (relationSays (relationIn s) f) 44
 
 -- a content leaf: its phrase, its method and its property
 abbrev pub contentSays : List ℕ → Content → List ℕ → Fields → Bool
 contentSays s c held f = phraseHolds (c .method) (phraseOf s c) (textOf held (ofTexts (c .property) (f .label) (f .note)))
 
-abbrev pub contentTold : List ℕ → ℕ → List ℕ → Fields → ℕ
-contentTold s at held f = told (contentSays (drop at s) (contentIn (drop at s) at) held f) (at + (localeAt (drop at s) at + 8))
+abbrev pub contentTold : List ℕ → List ℕ → Fields → ℕ
+contentTold s held f = told (contentSays s (contentIn s 0) held f) (localeAt s 0 + 8)
 
--- the leaf that is read at a place
-abbrev pub leafTold : ℕ → List ℕ → ℕ → Row → ℕ
-leafTold kind s at row = withLeaf (leafAt kind (drop at s) at) 0 λ parts used. told (leafHolds row (leafOf (drop at s) parts)) (at + used)
+-- the leaf that is read there
+abbrev pub leafTold : ℕ → List ℕ → Row → ℕ
+leafTold kind s row = withLeaf (leafAt kind s 0) 0 λ parts used. told (leafHolds row (leafOf s parts)) used
 
--- the answer for a row is that of whatever node the reader finds there
-abbrev pub Tells : Read → List ℕ → ℕ → Row → ℕ → Type 0
-Tells read s at row answer =
-    (nodes : ℕ) (r : TreeRead) → read nodes at (drop at s) ≡ some r → answer ≡ told (holds (r .tree) row) (at + r .used)
+-- the answer for a row is that of whatever node the reader finds there, at any place that is a multiple of 4
+abbrev pub Tells : Read → List ℕ → Row → ℕ → Type 0
+Tells read s row answer =
+    (place nodes : ℕ) (r : TreeRead) → place % 4 ≡ 0 → read nodes place s ≡ some r → answer ≡ told (holds (r .tree) row) (r .used)
 
 -- of a node of so many levels at most, and of an and or an or over nodes of so many levels
-abbrev pub NodeTold : List ℕ → ℕ → ℕ → Row → ℕ → Type 0
-NodeTold s at levels row answer = Tells (readTree levels) s at row answer
+abbrev pub NodeTold : List ℕ → ℕ → Row → ℕ → Type 0
+NodeTold s levels row answer = Tells (readTree levels) s row answer
 
-abbrev pub ListTold : ℕ → List ℕ → ℕ → ℕ → Row → ℕ → Type 0
-ListTold kind s at levels row answer = Tells (branchRead (readTree levels) kind) s at row answer
+abbrev pub ListTold : ℕ → List ℕ → ℕ → Row → ℕ → Type 0
+ListTold kind s levels row answer = Tells (branchRead (readTree levels) kind) s row answer

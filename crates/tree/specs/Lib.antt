@@ -7,6 +7,7 @@ pub mod Parts
 pub mod Tree
 pub mod TreeHolds
 pub mod Reader
+pub mod Writer
 pub mod Select
 pub mod Examples
 pub mod LeafPlaces
@@ -16,3 +17,4 @@ pub mod VerdictTold
 pub mod NodeTold
 pub mod HoldTold
 pub mod SelectTold
+pub mod Numbered

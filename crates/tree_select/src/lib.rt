@@ -1,8 +1,8 @@
 // The rows that a tree selects.
 ghost use mathlib.Core.Path.{_≡_};
 ghost use mathlib.Core.Bool.{true};
-ghost use Prim.Native.Nat.{_≤_};
-ghost use lib.ListN.{length};
+ghost use Prim.Native.Nat.{_≤_, _<_};
+ghost use lib.ListN.{length, getD};
 ghost use Rattle.catalogue.specs.Limits.{rowsMost};
 ghost use Rattle.catalogue.specs.CataloguePlaces.{rowSeen};
 ghost use Rattle.catalogue.specs.CatalogueReady.{RowAtReady};
@@ -10,7 +10,16 @@ ghost use Rattle.tree.specs.TreeHolds.{heldBy};
 ghost use Rattle.tree.specs.Reader.{restriction, isTree};
 ghost use Rattle.tree.specs.SelectTold.{Selected};
 ghost use Rattle.tree.specs.SelectReady.{NotedReady};
+use catalogue::Row;
 use catalogue::RowAt;
+
+// The place of a row in the catalogue, by its number.
+fn place_of(places: &[u32; catalogue::ROWS_MOST], row: Row) -> u32
+    requires { ⌜ row .0 < rowsMost ⌝ }
+    ensures { λ r. ⌜ r ≡ getD (now (places .entry)) (row .0) 0 ⌝ }
+{
+    places[row.0 as usize]
+}
 
 // Whether the tree holds for the row at a place.
 fn holds_at(tree: &[u8], catalogue: &[u8], place: u32) -> bool
@@ -39,13 +48,13 @@ pub fn select(
     let mut count: u32 = 0;
     let mut next: u32 = 0;
     while next < rows {
-        let row = next;
+        let row = Row(next);
         next += 1;
-        let place = places[row as usize];
+        let place = place_of(places, row);
         if !holds_at(tree, catalogue, place) {
             continue;
         }
-        into[count as usize] = row;
+        into[count as usize] = row.0;
         count += 1;
     }
     count

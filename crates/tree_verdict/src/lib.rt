@@ -1,15 +1,15 @@
-// What is said of a node of a tree: the place after it, and whether it holds.
+// What is said of a node of a tree: the bytes that it takes, and whether it holds.
 ghost use mathlib.Core.Path.{_≡_};
 ghost use Prim.Native.Nat.{_^_, _<_};
 ghost use Rattle.tree.specs.VerdictTold.{told, turned, withChild};
 
-// A node's answer in one number, since two would be passed in memory: twice the place after the node, and one more
+// A node's answer in one number, since two would be passed in memory: twice the bytes that it takes, and one more
 // where it holds.
-pub fn told(holds: bool, end: usize) -> usize
-    requires { ⌜ end < 2 ^ 63 ⌝ }
-    ensures { λ r. ⌜ r ≡ told holds end ⌝ }
+pub fn told(holds: bool, used: usize) -> usize
+    requires { ⌜ used < 2 ^ 63 ⌝ }
+    ensures { λ r. ⌜ r ≡ told holds used ⌝ }
 {
-    let twice = 2 * end;
+    let twice = 2 * used;
     if holds {
         return twice + 1;
     }

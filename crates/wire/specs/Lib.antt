@@ -7,3 +7,4 @@ pub mod PropertySpec
 pub mod Laid
 pub mod Examples
 pub mod FieldPlaces
+pub mod Numbered

@@ -10,7 +10,7 @@ use Rattle.table.specs.Layout.{seatSize}
 use Rattle.lists.proofs.Parts.{part-is}
 use Rattle.table.proofs.Tables.{table-length}
 use Rattle.call.specs.Step.{sourcesOf, Keeps, connectStep}
-use Rattle.call.proofs.Causes.{passes}
+use Rattle.call.proofs.Causes.{passes, refused-by}
 use Rattle.call.proofs.Seating.{part-none, is-connected, not-connected, seated-is}
 use Rattle.call.proofs.Connecting.{connect-judged, connect-taken, connect-done}
 use mathlib.Core.Option.{some}
@@ -25,7 +25,7 @@ same-length c = search needs
 returns : tie.Need-returns
 returns c =
     let a = c .before .before .before .before .before .before .args in
-    connect-judged (sourcesOf (a .catalogue .now)) (a .table .now) (a .seat .0) (a .version) _ (sym (c .before .judge .ensures .refused)) (c .if1 .taken)
+    connect-judged (sourcesOf (a .catalogue .now)) (a .table .now) (a .seat .0) (a .version) _ (sym (refused-by (c .before .judge .ensures))) (c .if1 .taken)
 
 cast-at : tie.Need-cast-at
 cast-at c = search needs
@@ -42,7 +42,7 @@ mul-if2 c = search needs
 slice-read-if2 : tie.Need-slice-read-if2
 slice-read-if2 c =
     let a = c .before .before .before .before .before .before .before .args in
-    let p = passes (sourcesOf (a .catalogue .now)) (a .table .now) (a .seat .0) (sym (c .before .before .judge .ensures .refused) ∙ c .before .if1 .left) in
+    let p = passes (sourcesOf (a .catalogue .now)) (a .table .now) (a .seat .0) (sym (refused-by (c .before .before .judge .ensures)) ∙ c .before .if1 .left) in
     omega (arith, p .seat-in, table-length (a .table .now) (p .table-in))
 
 same-length-2 : tie.Need-same-length-2
@@ -51,7 +51,7 @@ same-length-2 c = search needs
 returns-2 : tie.Need-returns-2
 returns-2 c =
     let a = c .before .before .before .before .before .before .before .before .args in
-    let e = sym (c .before .before .before .judge .ensures .refused) ∙ c .before .before .if1 .left in
+    let e = sym (refused-by (c .before .before .before .judge .ensures)) ∙ c .before .before .if1 .left in
     let p = passes (sourcesOf (a .catalogue .now)) (a .table .now) (a .seat .0) e in
     connect-taken (sourcesOf (a .catalogue .now)) (a .table .now) (a .seat .0) (a .version) e
     (is-connected (a .table .now) (p .table-in) (a .seat .0) (p .seat-in) (c .if2 .taken))
@@ -68,14 +68,14 @@ part-connect-start c = search needs
 part-connect-end : tie.Need-part-connect-end
 part-connect-end c =
     let a = c .before .before .before .before .before .before .before .before .args in
-    let e = sym (c .before .before .before .judge .ensures .refused) ∙ c .before .before .if1 .left in
+    let e = sym (refused-by (c .before .before .before .judge .ensures)) ∙ c .before .before .if1 .left in
     let p = passes (sourcesOf (a .catalogue .now)) (a .table .now) (a .seat .0) e in
     omega (arith, p .seat-in, table-length (a .table .now) (p .table-in))
 
 connect-requires : tie.Need-connect-requires
 connect-requires c κs =
     let a = c .before .before .before .before .before .before .before .before .before .args in
-    let e = sym (c .before .before .before .before .judge .ensures .refused) ∙ c .before .before .before .if1 .left in
+    let e = sym (refused-by (c .before .before .before .before .judge .ensures)) ∙ c .before .before .before .if1 .left in
     let p = passes (sourcesOf (a .catalogue .now)) (a .table .now) (a .seat .0) e in
     part-is (a .table .now) (seatSize * a .seat .0) seatSize
     ∙ part-none (a .table .now) (p .table-in) (a .seat .0) (p .seat-in) (c .before .if2 .left)
@@ -86,7 +86,7 @@ same-length-3 c = search needs
 returns-3 : tie.Need-returns-3
 returns-3 c =
     let a = c .before .before .before .before .before .before .before .before .before .before .before .before .args in
-    let e = sym (c .before .before .before .before .before .before .before .judge .ensures .refused) ∙ c .before .before .before .before .before .before .if1 .left in
+    let e = sym (refused-by (c .before .before .before .before .before .before .before .judge .ensures)) ∙ c .before .before .before .before .before .before .if1 .left in
     let p = passes (sourcesOf (a .catalogue .now)) (a .table .now) (a .seat .0) e in
     subst (λ (words : List ℕ). Keeps (connectStep (sourcesOf (a .catalogue .now)) (a .table .now) (a .seat .0) (a .version)) 0 0 0 words [] [])
     (sym (seated-is (a .table .now) (a .seat .0) _ (some (fresh (a .version))) (c .before .before .connect .ensures)))

@@ -6,7 +6,7 @@ use Rattle.call.proofs.Sourcing.{noted-length, sourced}
 use lib.ListN.{length-replicate, length}
 use Rattle.call.proofs.Opening.{places-noted}
 use Rattle.call.proofs.Messaging.{message-judged, room-refused, short-refused, long-refused, message-answered}
-use Rattle.call.proofs.Causes.{passes}
+use Rattle.call.proofs.Causes.{passes, refused-by}
 use Rattle.call.specs.Step.{sourcesOf}
 use Rattle.table.proofs.Tables.{table-length, table-seat, part-size}
 use Rattle.lists.proofs.Parts.{part-is}
@@ -25,7 +25,7 @@ same-length c = search needs
 returns : tie.Need-returns
 returns c =
     let a = c .before .before .before .before .before .before .before .before .args in
-    message-judged (sourcesOf (a .catalogue .now)) (a .table .now) (a .seat .0) (a .message .now) (a .reply .now) _ (sym (c .before .judge .ensures .refused)) (c .if1 .taken)
+    message-judged (sourcesOf (a .catalogue .now)) (a .table .now) (a .seat .0) (a .message .now) (a .reply .now) _ (sym (refused-by (c .before .judge .ensures))) (c .if1 .taken)
 
 same-length-2 : tie.Need-same-length-2
 same-length-2 c = search needs
@@ -33,7 +33,7 @@ same-length-2 c = search needs
 returns-2 : tie.Need-returns-2
 returns-2 c =
     let a = c .before .before .before .before .before .before .before .before .before .args in
-    let e = sym (c .before .before .judge .ensures .refused) ∙ c .before .if1 .left in
+    let e = sym (refused-by (c .before .before .judge .ensures)) ∙ c .before .if1 .left in
     room-refused (sourcesOf (a .catalogue .now)) (a .table .now) (a .seat .0) (a .message .now) (a .reply .now) e (c .if2 .taken)
 
 same-length-3 : tie.Need-same-length-3
@@ -42,7 +42,7 @@ same-length-3 c = search needs
 returns-3 : tie.Need-returns-3
 returns-3 c =
     let a = c .before .before .before .before .before .before .before .before .before .before .args in
-    let e = sym (c .before .before .before .judge .ensures .refused) ∙ c .before .before .if1 .left in
+    let e = sym (refused-by (c .before .before .before .judge .ensures)) ∙ c .before .before .if1 .left in
     short-refused (sourcesOf (a .catalogue .now)) (a .table .now) (a .seat .0) (a .message .now) (a .reply .now) e (c .before .if2 .left) (c .if3 .taken)
 
 same-length-4 : tie.Need-same-length-4
@@ -51,7 +51,7 @@ same-length-4 c = search needs
 returns-4 : tie.Need-returns-4
 returns-4 c =
     let a = c .before .before .before .before .before .before .before .before .before .before .before .args in
-    let e = sym (c .before .before .before .before .judge .ensures .refused) ∙ c .before .before .before .if1 .left in
+    let e = sym (refused-by (c .before .before .before .before .judge .ensures)) ∙ c .before .before .before .if1 .left in
     long-refused (sourcesOf (a .catalogue .now)) (a .table .now) (a .seat .0) (a .message .now) (a .reply .now) e (c .before .before .if2 .left) (c .before .if3 .left) (c .if4 .taken)
 
 cast-at : tie.Need-cast-at
@@ -75,7 +75,7 @@ part-answer-start c = search needs
 part-answer-end : tie.Need-part-answer-end
 part-answer-end c =
     let a = c .before .before .before .before .before .before .before .before .before .before .before .before .args in
-    let e = sym (c .before .before .before .before .before .judge .ensures .refused) ∙ c .before .before .before .before .if1 .left in
+    let e = sym (refused-by (c .before .before .before .before .before .judge .ensures)) ∙ c .before .before .before .before .if1 .left in
     let p = passes (sourcesOf (a .catalogue .now)) (a .table .now) (a .seat .0) e in
     omega (arith, p .seat-in, table-length (a .table .now) (p .table-in))
 
@@ -87,7 +87,7 @@ answer-requires c κs =
     let a = c .before .before .before .before .before .before .before .before .before .before .before .before .before .before .before .args in
     let j = c .before .before .before .before .before .before .before .before .judge .ensures in
     let z = c .before .before .before .before .before .before .before .if1 .left in
-    let e = sym (j .refused) ∙ z in
+    let e = sym (refused-by j) ∙ z in
     let t = a .table .now in
     let s = a .catalogue .now in
     let p = passes (sourcesOf s) t (a .seat .0) e in (
@@ -111,7 +111,7 @@ same-length-6 c = search needs
 returns-5 : tie.Need-returns-5
 returns-5 c =
     let a = c .before .before .before .before .before .before .before .before .before .before .before .before .before .before .before .before .before .before .before .before .args in
-    let e = sym (c .before .before .before .before .before .before .before .before .before .before .before .before .before .judge .ensures .refused) ∙ c .before .before .before .before .before .before .before .before .before .before .before .before .if1 .left in
+    let e = sym (refused-by (c .before .before .before .before .before .before .before .before .before .before .before .before .before .judge .ensures)) ∙ c .before .before .before .before .before .before .before .before .before .before .before .before .if1 .left in
     message-answered (sourcesOf (a .catalogue .now)) (a .table .now) (a .seat .0) (a .message .now) (a .reply .now) e (c .before .before .before .before .before .before .before .before .before .before .before .if2 .left) (c .before .before .before .before .before .before .before .before .before .before .if3 .left) (c .before .before .before .before .before .before .before .before .before .if4 .left) _ _ _
     (rw (part-is (a .table .now) (seatSize * a .seat .0) seatSize) at (c .before .before .before .before .answer .ensures))
 

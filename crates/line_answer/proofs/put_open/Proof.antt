@@ -18,10 +18,13 @@ put-number-requires c κs = search needs
 slice-aggregate-put-number-2 : tie.Need-slice-aggregate-put-number-2
 slice-aggregate-put-number-2 c = search needs
 
+cast-put-number : tie.Need-cast-put-number
+cast-put-number c = search needs
+
 put-number-requires-2 : tie.Need-put-number-requires-2
 put-number-requires-2 c κs =
-    let a = c .before .before .before .before .before .before .before .before in
-    let one = c .before .before .before .before .put-number in
+    let a = c .before .before .before .before .before .before .before .before .before in
+    let one = c .before .before .before .before .before .put-number in
     let first = room-after (a .args .refusal) 22 (openName ++ space) (one .ensures) (omega (arith, a .pre)) (one .kept .0) in
     omega (arith, first)
 
@@ -30,11 +33,11 @@ slice-aggregate-put c = search needs
 
 put-requires : tie.Need-put-requires
 put-requires c κs =
-    let a = c .before .before .before .before .before .before .before .before .before .before .before .before .before in
-    let one = c .before .before .before .before .before .before .before .before .before .put-number in
+    let a = c .before .before .before .before .before .before .before .before .before .before .before .before .before .before in
+    let one = c .before .before .before .before .before .before .before .before .before .before .put-number in
     let first = room-after (a .args .refusal) 22 (openName ++ space) (one .ensures) (omega (arith, a .pre)) (one .kept .0) in
     let two = c .before .before .before .before .put-number2 in
-    let second = room-after (a .args .handle) 1 (space) (two .ensures) (omega (arith, first)) (two .kept .0) in
+    let second = room-after (a .args .handle .0) 1 (space) (two .ensures) (omega (arith, first)) (two .kept .0) in
     second
 
 same-length : tie.Need-same-length
@@ -43,11 +46,11 @@ same-length c = search needs
 returns : tie.Need-returns
 unfolding openText
 returns c =
-    let a = c .before .before .before .before .before .before .before .before .before .before .before .before .before .before .before .before in
-    let one = c .before .before .before .before .before .before .before .before .before .before .before .before .put-number in
+    let a = c .before .before .before .before .before .before .before .before .before .before .before .before .before .before .before .before .before in
+    let one = c .before .before .before .before .before .before .before .before .before .before .before .before .before .put-number in
     let first = room-after (a .args .refusal) 22 (openName ++ space) (one .ensures) (omega (arith, a .pre)) (one .kept .0) in
     let two = c .before .before .before .before .before .before .before .put-number2 in
-    let second = room-after (a .args .handle) 1 (space) (two .ensures) (omega (arith, first)) (two .kept .0) in
+    let second = room-after (a .args .handle .0) 1 (space) (two .ensures) (omega (arith, first)) (two .kept .0) in
     put-then (one .ensures) (put-then (two .ensures) (c .before .before .put .ensures) (omega (arith, second, two .kept))) (omega (arith, first, one .kept))
 
 pub put-open-spec : {M : Type 1} → statement M
@@ -57,6 +60,7 @@ put-open-spec =
     slice-aggregate-put-number
     put-number-requires
     slice-aggregate-put-number-2
+    cast-put-number
     put-number-requires-2
     slice-aggregate-put
     put-requires

@@ -16,10 +16,10 @@ cursor-at-requires : tie.Need-cursor-at-requires
 cursor-at-requires c κs = search needs
 
 add-end : tie.Need-add-end
-add-end c = omega (arith, c .cursor-at .ensures, place-inside (c .before .before .args .handle))
+add-end c = omega (arith, c .cursor-at .ensures, place-inside (c .before .before .args .handle .0))
 
 mul-clear : tie.Need-mul-clear
-mul-clear c = omega (arith, c .cursor-at .ensures, place-inside (c .before .before .args .handle))
+mul-clear c = omega (arith, c .cursor-at .ensures, place-inside (c .before .before .args .handle .0))
 
 sub-clear : tie.Need-sub-clear
 sub-clear c = search needs
@@ -28,7 +28,7 @@ part-clear-start : tie.Need-part-clear-start
 part-clear-start c = search needs
 
 part-clear-end : tie.Need-part-clear-end
-part-clear-end c = omega (arith, c .cursor-at .ensures, place-inside (c .before .before .args .handle))
+part-clear-end c = omega (arith, c .cursor-at .ensures, place-inside (c .before .before .args .handle .0))
 
 clear-requires : tie.Need-clear-requires
 clear-requires c κs = search needs
@@ -41,7 +41,7 @@ returns c =
     let a = c .before .before .before .before .before .before in
     let b = a .args .seat .now in
     let at = c .before .before .before .before .cursor-at .result in
-    let inside : at + cursorSize ≤ length b = omega (arith, a .pre, c .before .before .before .before .cursor-at .ensures, place-inside (a .args .handle)) in
+    let inside : at + cursorSize ≤ length b = omega (arith, a .pre, c .before .before .before .before .cursor-at .ensures, place-inside (a .args .handle .0)) in
     put-is b at (c .before .before .clear .last .0)
     ∙ ap₂ (λ (p : ℕ) (x : List ℕ). put b p cursorSize x) (c .before .before .before .before .cursor-at .ensures)
     (c .before .before .clear .ensures ∙ ap zeros (ap length (part-is b at cursorSize) ∙ part-length b at cursorSize inside))

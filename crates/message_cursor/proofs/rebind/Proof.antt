@@ -16,10 +16,10 @@ cursor-at-requires : tie.Need-cursor-at-requires
 cursor-at-requires c κs = search needs
 
 add-end : tie.Need-add-end
-add-end c = omega (arith, c .cursor-at .ensures, place-inside (c .before .before .before .args .handle))
+add-end c = omega (arith, c .cursor-at .ensures, place-inside (c .before .before .before .args .handle .0))
 
 mul-bind : tie.Need-mul-bind
-mul-bind c = omega (arith, c .cursor-at .ensures, place-inside (c .before .before .before .args .handle))
+mul-bind c = omega (arith, c .cursor-at .ensures, place-inside (c .before .before .before .args .handle .0))
 
 sub-bind : tie.Need-sub-bind
 sub-bind c = search needs
@@ -28,7 +28,7 @@ part-bind-start : tie.Need-part-bind-start
 part-bind-start c = search needs
 
 part-bind-end : tie.Need-part-bind-end
-part-bind-end c = omega (arith, c .cursor-at .ensures, place-inside (c .before .before .before .args .handle))
+part-bind-end c = omega (arith, c .cursor-at .ensures, place-inside (c .before .before .before .args .handle .0))
 
 bind-requires : tie.Need-bind-requires
 bind-requires c κs = search needs

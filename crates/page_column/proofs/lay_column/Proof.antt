@@ -6,8 +6,8 @@ use mathlib.Core.Path.{_∙_, sym, ap}
 use Prim.Native.Nat.{ℕ, _-_}
 use native.Mathlib.Omega.{arith}
 use lib.ListN.{length}
-use Rattle.page.proofs.Fields.{field-small, stand-small, still-in}
-use Rattle.page.proofs.Column.{found-stands, found-room, column-laid}
+use Rattle.page.proofs.Fields.{field-small, stand-small, status-numbered, still-in}
+use Rattle.page.proofs.Column.{found-stands, found-taken, found-length, found-room, column-laid}
 
 field-requires : tie.Need-field-requires
 field-requires c κs = search needs
@@ -18,12 +18,12 @@ room-of-requires c κs = let a = c .before .before .before .args in
 
 sub-place : tie.Need-sub-place
 sub-place c = let a = c .before .before .before .before .args in let p = c .before .before .before .before .pre in
-    omega (arith, c .room-of .ensures (a .catalogue .now) (found-stands (a .catalogue .now) (a .fields) (a .column) (c .before .field .result) (p .stands) (c .before .field .ensures)), found-room (a .catalogue .now) (a .fields) (a .column) (c .before .field .result) (p .stands) (c .before .field .ensures), p .room)
+    omega (arith, c .room-of .ensures ∙ found-taken (a .catalogue .now) (a .fields) (a .column) (c .before .field .result) (p .stands) (c .before .field .ensures), found-room (a .catalogue .now) (a .fields) (a .column) (c .before .field .result) (p .stands) (c .before .field .ensures), p .room)
 
 lay-block-requires : tie.Need-lay-block-requires
 lay-block-requires c κs = let a = c .before .before .before .before .before .args in let p = c .before .before .before .before .before .pre in
     let stand = found-stands (a .catalogue .now) (a .fields) (a .column) (c .before .before .field .result) (p .stands) (c .before .before .field .ensures) in
-    (stand, omega (arith, c .before .room-of .ensures (a .catalogue .now) stand, found-room (a .catalogue .now) (a .fields) (a .column) (c .before .before .field .result) (p .stands) (c .before .before .field .ensures), p .room, p .ends))
+    (stand, omega (arith, c .before .room-of .ensures ∙ found-taken (a .catalogue .now) (a .fields) (a .column) (c .before .before .field .result) (p .stands) (c .before .before .field .ensures), found-room (a .catalogue .now) (a .fields) (a .column) (c .before .before .field .result) (p .stands) (c .before .before .field .ensures), p .room, p .ends))
 
 add-offset : tie.Need-add-offset
 add-offset c = let a = c .before .before .before .before .before .before .before .before .args in omega (arith, c .before .before .before .before .before .before .before .before .pre .offset)
@@ -58,16 +58,16 @@ same-length c = search needs
 
 returns : tie.Need-returns
 returns c = let a = c .before .before .before .before .before .before .before .before .before .before .before .before .before .before .before .before .before .before .before .before .before .before .before .before .args in let s = a .catalogue .now in let p = c .before .before .before .before .before .before .before .before .before .before .before .before .before .before .before .before .before .before .before .before .before .before .before .before .pre in let found = c .before .before .before .before .before .before .before .before .before .before .before .before .before .before .before .before .before .before .before .before .before .field .result in
-    let stand = found-stands s (a .fields) (a .column) found (p .stands) (c .before .before .before .before .before .before .before .before .before .before .before .before .before .before .before .before .before .before .before .before .before .field .ensures) in
-    let room = c .before .before .before .before .before .before .before .before .before .before .before .before .before .before .before .before .before .before .before .before .room-of .ensures s stand ∙ found-room s (a .fields) (a .column) found (p .stands) (c .before .before .before .before .before .before .before .before .before .before .before .before .before .before .before .before .before .before .before .before .before .field .ensures) in
+    let is = c .before .before .before .before .before .before .before .before .before .before .before .before .before .before .before .before .before .before .before .before .before .field .ensures in
+    let room = c .before .before .before .before .before .before .before .before .before .before .before .before .before .before .before .before .before .before .before .before .room-of .ensures ∙ found-taken s (a .fields) (a .column) found (p .stands) is ∙ found-room s (a .fields) (a .column) found (p .stands) is in
     record {
       placed = ap (λ (n : ℕ). a .top - n) room;
-      laid = column-laid s (a .fields) (a .column) found (p .stands) (c .before .before .before .before .before .before .before .before .before .before .before .before .before .before .before .before .before .before .before .before .before .field .ensures) (a .reply .now)
+      laid = column-laid s (a .fields) (a .column) found (p .stands) is (a .reply .now)
           (c .before .before .before .before .before .before .before .before .before .before .before .before .before .before .before .before .before .before .lay-block .last .0) (c .before .before .before .before .before .before .before .before .before .before .before .before .lay-value .last .0) (c .before .before .before .before .before .before .before .lay-status .last .0) (c .before .before .lay-length .last .0)
           (a .base) (a .row) (a .top - c .before .before .before .before .before .before .before .before .before .before .before .before .before .before .before .before .before .before .before .before .room-of .result) (c .before .before .before .before .before .before .before .before .before .before .before .before .before .before .kind .result) (c .before .before .before .before .before .before .before .before .before .before .before .before .before .content .result) (c .before .before .before .before .before .before .before .before .status .result) (c .before .before .before .length-sent .result)
           (omega (arith, p .offset))
           (c .before .before .before .before .before .before .before .before .before .before .before .before .before .before .before .before .before .before .lay-block .ensures) (c .before .before .before .before .before .before .before .before .before .before .before .before .before .before .kind .ensures s) (c .before .before .before .before .before .before .before .before .before .before .before .before .before .content .ensures s) (c .before .before .before .before .before .before .before .before .before .before .before .before .lay-value .ensures)
-          (c .before .before .before .before .before .before .before .before .status .ensures s) (c .before .before .before .before .before .before .before .lay-status .ensures) (c .before .before .before .length-sent .ensures s stand) (c .before .before .lay-length .ensures);
+          (c .before .before .before .before .before .before .before .before .status .ensures ∙ status-numbered s found) (c .before .before .before .before .before .before .before .lay-status .ensures) (c .before .before .before .length-sent .ensures ∙ found-length s (a .fields) (a .column) found (p .stands) is) (c .before .before .lay-length .ensures);
     }
 
 pub lay-column-spec : {M : Type 1} → statement M

@@ -2,10 +2,8 @@
 use borrow.Author.Needs.{needs}
 use Rattle.page_field.proofs.length_sent.Statement.{statement}
 use Rattle.page_field.proofs.length_sent.Tie as tie
-use mathlib.Core.Path.{sym}
 use Prim.Native.Nat.{_≤_}
 use native.Mathlib.Omega.{arith}
-use Rattle.page.proofs.Units.{units-double}
 
 enum-told : tie.Need-enum-told
 enum-told c = search needs
@@ -27,14 +25,13 @@ enum-told-2 : tie.Need-enum-told-2
 enum-told-2 c = search needs
 
 returns : tie.Need-returns
-returns c = λ s h. rw (c .before .enum-told .given .1) (c .number-size .ensures)
+returns c = rw (c .before .enum-told .given .1) (c .number-size .ensures)
 
 returns-2 : tie.Need-returns-2
-returns-2 c = λ s h. let t = c .before .field .given .0 .0 in
-    rw (c .before .field .given .1) (let k = rw (c .before .field .given .1) at h in sym (units-double s t (k .0) (k .1)))
+returns-2 c = rw (c .before .field .given .1)
 
 returns-3 : tie.Need-returns-3
-returns-3 c = λ s h. rw (c .enum-told2 .given .1)
+returns-3 c = rw (c .enum-told2 .given .1)
 
 pub length-sent-spec : {M : Type 1} → statement M
 length-sent-spec =

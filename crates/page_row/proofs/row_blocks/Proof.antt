@@ -12,6 +12,7 @@ use Rattle.page.specs.Cell.{blockRoom}
 use Rattle.page.proofs.Fields.{stand-small}
 use Rattle.page.specs.Rows.{blocks}
 use Rattle.page.specs.RowReady.{blockMost}
+use Rattle.page.proofs.Column.{room-at}
 use Rattle.page.proofs.Found.{room-small, fields-stand, fields-row}
 use Rattle.page.proofs.RowSteps.{blocks-more, blocks-none}
 
@@ -34,7 +35,7 @@ block-room-requires c κs = let a = c .before .before .before .before .before .a
 add-total : tie.Need-add-total Inv-loop μ-loop
 add-total c = let a = c .before .before .before .before .before .before .args in let f = a .fields in
     let st = fields-stand (a .catalogue .now) (a .at) f (c .before .before .before .before .before .before .pre .1) in
-    omega (arith, c .block-room .ensures (a .catalogue .now) st, room-small (a .catalogue .now) f (c .before .column-at .result) st, c .before .before .before .before .before .before .pre .0 .few)
+    omega (arith, c .block-room .ensures ∙ room-at (a .catalogue .now) f (c .before .column-at .result) st, room-small (a .catalogue .now) f (c .before .column-at .result) st, c .before .before .before .before .before .before .pre .0 .few)
 
 add-k : tie.Need-add-k Inv-loop μ-loop
 add-k c = search needs
@@ -48,8 +49,8 @@ loop-less c = search needs
 loop-again : tie.Need-loop-again Inv-loop μ-loop
 loop-again c = let a = c .before .before .before .before .before .before .args in let f = a .fields in let l = c .before .before .before .loop in let r = rowOf (a .catalogue .now) f in
     let st = fields-stand (a .catalogue .now) (a .at) f (c .before .before .before .before .before .before .pre .1) in
-    let room = c .block-room .ensures (a .catalogue .now) st ∙ ap (λ (d : Column). blockRoom d r) (c .before .column-at .ensures) in
-    (omega arith, omega (arith, c .block-room .ensures (a .catalogue .now) st, room-small (a .catalogue .now) f (c .before .column-at .result) st), omega (arith, l .inv .2, room, blocks-more (l .left) (l .k) (a .records .now) r (c .before .before .loop-test .taken)))
+    let room = c .block-room .ensures ∙ room-at (a .catalogue .now) f (c .before .column-at .result) st ∙ ap (λ (d : Column). blockRoom d r) (c .before .column-at .ensures) in
+    (omega arith, omega (arith, c .block-room .ensures ∙ room-at (a .catalogue .now) f (c .before .column-at .result) st, room-small (a .catalogue .now) f (c .before .column-at .result) st), omega (arith, l .inv .2, room, blocks-more (l .left) (l .k) (a .records .now) r (c .before .before .loop-test .taken)))
 
 returns : tie.Need-returns Inv-loop μ-loop
 returns c = let a = c .before .before .before .before .args in let f = a .fields in let l = c .before .loop in

@@ -15,10 +15,10 @@ cursor-at-requires : tie.Need-cursor-at-requires
 cursor-at-requires c κs = search needs
 
 add-end : tie.Need-add-end
-add-end c = omega (arith, c .cursor-at .ensures, place-inside (c .before .before .before .before .args .handle))
+add-end c = omega (arith, c .cursor-at .ensures, place-inside (c .before .before .before .before .args .handle .0))
 
 mul-fill : tie.Need-mul-fill
-mul-fill c = omega (arith, c .cursor-at .ensures, place-inside (c .before .before .before .before .args .handle))
+mul-fill c = omega (arith, c .cursor-at .ensures, place-inside (c .before .before .before .before .args .handle .0))
 
 sub-fill : tie.Need-sub-fill
 sub-fill c = search needs
@@ -27,7 +27,7 @@ part-fill-start : tie.Need-part-fill-start
 part-fill-start c = search needs
 
 part-fill-end : tie.Need-part-fill-end
-part-fill-end c = omega (arith, c .cursor-at .ensures, place-inside (c .before .before .before .before .args .handle))
+part-fill-end c = omega (arith, c .cursor-at .ensures, place-inside (c .before .before .before .before .args .handle .0))
 
 fill-requires : tie.Need-fill-requires
 fill-requires c κs =

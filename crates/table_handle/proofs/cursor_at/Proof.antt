@@ -5,10 +5,10 @@ use mathlib.Core.Path.{sym}
 use Rattle.table.proofs.Handles.{place-first, place-second}
 
 returns : tie.Need-returns
-returns c = sym (place-first (c .before .args .handle) (c .if1 .taken))
+returns c = sym (place-first (c .before .before .args .handle .0) (c .if1 .taken))
 
 returns-2 : tie.Need-returns-2
-returns-2 c = sym (place-second (c .before .args .handle) (c .if1 .left))
+returns-2 c = sym (place-second (c .before .before .args .handle .0) (c .if1 .left))
 
 pub cursor-at-spec : {M : Type 1} → statement M
 cursor-at-spec = tie.close (tie.spec returns returns-2)

@@ -9,16 +9,16 @@ shared-slice-read-result : tie.Need-shared-slice-read-result
 shared-slice-read-result c = search needs
 
 returns : tie.Need-returns
-returns c = sym (open-first (c .before .before .args .seat .now) (c .before .before .args .handle) (c .before .if1 .taken))
+returns c = sym (open-first (c .before .before .before .args .seat .now) (c .before .before .before .args .handle .0) (c .before .if1 .taken))
 
 shared-slice-read-result-2 : tie.Need-shared-slice-read-result-2
 shared-slice-read-result-2 c = search needs
 
 returns-2 : tie.Need-returns-2
-returns-2 c = sym (open-second (c .before .before .before .args .seat .now) (c .before .before .before .args .handle) (c .before .before .if1 .left) (c .before .if2 .taken))
+returns-2 c = sym (open-second (c .before .before .before .before .before .args .seat .now) (c .before .before .before .before .before .args .handle .0) (c .before .before .before .if1 .left) (c .before .if2 .taken))
 
 returns-3 : tie.Need-returns-3
-returns-3 c = sym (open-none (c .before .before .args .seat .now) (c .before .before .args .handle) (c .before .if1 .left) (c .if2 .left))
+returns-3 c = sym (open-none (c .before .before .before .before .args .seat .now) (c .before .before .before .before .args .handle .0) (c .before .before .if1 .left) (c .if2 .left))
 
 pub is-open-spec : {M : Type 1} → statement M
 is-open-spec =

@@ -2,22 +2,12 @@
 use borrow.Author.Needs.{needs}
 use Rattle.tree_hold.proofs.relation_told.Statement.{statement}
 use Rattle.tree_hold.proofs.relation_told.Tie as tie
-use Rattle.tree.proofs.Leaves.{word-from}
-
-add-word : tie.Need-add-word
-add-word c = search needs
 
 word-requires : tie.Need-word-requires
 word-requires c κs = search needs
 
-add-word-2 : tie.Need-add-word-2
-add-word-2 c = search needs
-
 word-requires-2 : tie.Need-word-requires-2
 word-requires-2 c κs = search needs
-
-add-word-3 : tie.Need-add-word-3
-add-word-3 c = search needs
 
 word-requires-3 : tie.Need-word-requires-3
 word-requires-3 c κs = search needs
@@ -31,9 +21,6 @@ number-of-requires c κs = search needs
 relation-holds-requires : tie.Need-relation-holds-requires
 relation-holds-requires c κs = search needs
 
-add-told : tie.Need-add-told
-add-told c = search needs
-
 told-requires : tie.Need-told-requires
 told-requires c κs = search needs
 
@@ -44,11 +31,7 @@ returns c =
     let valued = named .before in
     let specified = valued .before in
     let found = specified .before in
-    let a = found .before .before .args in
     rw (
-      word-from 4 (a .tree .now) (a .at) 8,
-      word-from 4 (a .tree .now) (a .at) 32,
-      word-from 4 (a .tree .now) (a .at) 40,
       ← found .word .ensures,
       ← specified .word2 .ensures,
       ← valued .word3 .ensures,
@@ -60,15 +43,11 @@ pub relation-told-spec : {M : Type 1} → statement M
 relation-told-spec =
     tie.close
     (tie.spec
-    add-word
     word-requires
-    add-word-2
     word-requires-2
-    add-word-3
     word-requires-3
     cast-value
     number-of-requires
     relation-holds-requires
-    add-told
     told-requires
     returns)

@@ -3,14 +3,17 @@
 use Rattle.tree_select.proofs.select.Statement.{statement}
 use Rattle.tree_select.proofs.select.Tie as tie
 use borrow.Author.Needs.{needs}
-use mathlib.Core.Path.{_≡_, sym, _∙_}
+use mathlib.Core.Path.{_≡_, sym, ap, _∙_}
 use mathlib.Core.Bool.{true, false}
-use Prim.Native.Nat.{_+_, _-_, _≤_}
+use Prim.Native.Nat.{ℕ, _+_, _-_, _≤_}
 use native.Mathlib.Numerals.{add-one}
 use native.Mathlib.Omega.{arith}
 use borrow.Author.Tests.{not-true, not-false}
 use lib.ListN.{length}
 use lib.Seq.{sets}
+use Rattle.catalogue.specs.CataloguePlaces.{rowSeen}
+use Rattle.tree.specs.TreeHolds.{heldBy}
+use Rattle.tree.specs.Reader.{restriction}
 use Rattle.tree.proofs.SelectLaws.{left, few, stands, left-more, all-selected}
 
 abbrev Inv-loop : tie.InvT-loop
@@ -30,17 +33,11 @@ loop-holds c = search needs
 add-next : tie.Need-add-next Inv-loop μ-loop
 add-next c = search needs
 
-cast-place : tie.Need-cast-place Inv-loop μ-loop
-cast-place c = search needs
-
-mul-place : tie.Need-mul-place Inv-loop μ-loop
-mul-place c = search needs
-
-element-copy-out-place : tie.Need-element-copy-out-place Inv-loop μ-loop
-element-copy-out-place c = omega (arith, few (c .before .before .before .before .before .args .catalogue .now) (c .before .before .before .before .before .args .rows) (c .before .before .before .before .before .args .places .now) (c .before .before .before .before .before .pre .1))
+place-of-requires : tie.Need-place-of-requires Inv-loop μ-loop
+place-of-requires c κs = omega (arith, few (c .before .before .before .before .before .args .catalogue .now) (c .before .before .before .before .before .args .rows) (c .before .before .before .before .before .args .places .now) (c .before .before .before .before .before .pre .1))
 
 holds-at-requires : tie.Need-holds-at-requires Inv-loop μ-loop
-holds-at-requires c κs = let a = c .before .before .before .before .before .before in (a .pre .0, stands (a .args .catalogue .now) (a .args .rows) (a .args .places .now) (a .pre .1) (c .before .before .loop .next) (search needs))
+holds-at-requires c κs = let a = c .before .before .before .before .before .before in (a .pre .0, rw (c .place-of .ensures) (stands (a .args .catalogue .now) (a .args .rows) (a .args .places .now) (a .pre .1) (c .before .before .loop .next) (search needs)))
 
 loop-less : tie.Need-loop-less Inv-loop μ-loop
 loop-less c = search needs
@@ -49,7 +46,7 @@ loop-again : tie.Need-loop-again Inv-loop μ-loop
 loop-again c = let a = c .before .before .before .before .before .before .before .before .args in
     let n = c .before .before .before .before .before .before .before .before .pre .1 in
     let l = c .before .before .before .before .loop in
-    let e = left-more (a .catalogue .now) (a .rows) (a .places .now) n (a .tree .now) (l .next) false (search needs) (sym (not-true _ (c .if1 .taken)) ∙ c .before .holds-at .ensures) in
+    let e = left-more (a .catalogue .now) (a .rows) (a .places .now) n (a .tree .now) (l .next) false (search needs) (sym (not-true _ (c .if1 .taken)) ∙ c .before .holds-at .ensures ∙ ap (λ (p : ℕ). heldBy (restriction (a .tree .now)) (rowSeen (a .catalogue .now) p)) (c .before .before .place-of .ensures)) in
     (search needs, search needs, search needs, rw e at (l .inv .3), rw e at (l .inv .4))
 
 cast-into : tie.Need-cast-into Inv-loop μ-loop
@@ -71,7 +68,7 @@ loop-again-2 : tie.Need-loop-again-2 Inv-loop μ-loop
 loop-again-2 c = let a = c .before .before .before .before .before .before .before .before .args in
     let n = c .before .before .before .before .before .before .before .before .pre .1 in
     let l = c .before .before .before .before .loop in
-    let e = left-more (a .catalogue .now) (a .rows) (a .places .now) n (a .tree .now) (l .next) true (search needs) (sym (not-false _ (c .if1 .left)) ∙ c .before .holds-at .ensures) in
+    let e = left-more (a .catalogue .now) (a .rows) (a .places .now) n (a .tree .now) (l .next) true (search needs) (sym (not-false _ (c .if1 .left)) ∙ c .before .holds-at .ensures ∙ ap (λ (p : ℕ). heldBy (restriction (a .tree .now)) (rowSeen (a .catalogue .now) p)) (c .before .before .place-of .ensures)) in
     (search needs, search needs, search needs, omega (arith, rw e at (l .inv .3)), rw add-one (rw e at (l .inv .4)))
 
 same-length : tie.Need-same-length Inv-loop μ-loop
@@ -90,9 +87,7 @@ select-spec =
     μ-loop
     loop-holds
     add-next
-    cast-place
-    mul-place
-    element-copy-out-place
+    place-of-requires
     holds-at-requires
     loop-less
     loop-again
