@@ -1,8 +1,9 @@
 /* What is measured: one of two servers, libnadrzewie.a or the second server (peer/), makes one call so many times. The
    difference between two counts is the cost of the calls alone: all that is made ready does not depend on the count, and each
-   call has a table of its own, so that all of them do the same. Arguments: `ours` or `peer`; the call; the catalogue's row
-   count; the count of calls, at most 4. Or `fit` and a size in bytes: prints the most rows of a catalogue that is no larger,
-   and its size. */
+   call has a table of its own, so that all of them do the same. Arguments: `ours` or `peer`; the call; the catalogue, which is
+   a row count or `words` (100 rows with notes of 2,048 units, words of seven letters), `spaces` (the same of spaces alone) or
+   `largest` (1,024 rows of 1,024 bytes); the count of calls, at most 4. Or `fit` and a size in bytes: prints the most rows of a
+   catalogue that is no larger, and its size. */
 #include "nadrzewie.h"
 #include "../tests/c/calls.h"
 #include "../peer/server.h"
@@ -11,7 +12,7 @@ int printf(const char *format, ...);
 int strcmp(const char *a, const char *b);
 int atoi(const char *digits);
 
-enum { TABLES = 4, ROWS_MOST = 1000, LABEL_LEAST = 8, WIDTH = 64, RESERVED = 20, BUFFER = 16384 };
+enum { TABLES = 4, ROWS_MOST = 1024, LONG_ROWS = 100, LABEL_LEAST = 8, WIDTH = 64, RESERVED = 20, BUFFER = 16384 };
 enum { END_OF_ROWSET = 0x00040EC6 };
 
 static u32 tables[TABLES][NADRZEWIE_TABLE_WORDS];
@@ -67,9 +68,9 @@ static void every_row(void)
     tree_size = put_relation(tree, 0, KEY, 3, 0);
 }
 
-static void phrase(void)
+static void phrase(u32 property)
 {
-    tree_size = put_phrase(tree, 0, LABEL, "start", 0);
+    tree_size = put_phrase(tree, 0, property, "start", 0);
 }
 
 /* an and of three: the default below 4,000, a phrase in the label, the language from 1,035 on */
@@ -77,6 +78,21 @@ static void branches(void)
 {
     u64 at = put_relation(tree, put_and(tree, 0, 3), DEFAULT, 0, 4000);
     tree_size = put_relation(tree, put_phrase(tree, at, LABEL, "start", 1), LANGUAGE, 3, 1035);
+}
+
+/* 64 nodes: an and of nine ors, each of six relations, which have all properties and relations, and values about the middle. About
+   half of them hold, and of 500 rows 217 are selected. */
+static void widest(void)
+{
+    u64 at = put_and(tree, 0, 9);
+    for (u32 i = 0; i < 9; i++) {
+        at = put_or(tree, at, 6);
+        for (u32 k = 0; k < 6; k++) {
+            const u32 middle[] = {1000 + 37 * (150 + 25 * i), 1038 + i, 1500 + 250 * i};
+            at = put_relation(tree, at, KEY + k % 3, (2 * i + k / 3) % 6, middle[k % 3]);
+        }
+    }
+    tree_size = at;
 }
 
 static void asks_rows(u32 count, u32 width, u32 buffer)
@@ -179,15 +195,23 @@ static void (*task(const char *name))(u32 *)
     if (strcmp(name, "connect-full") == 0)
         return full(), connect_one;
     if (strcmp(name, "open-phrase") == 0)
-        return connects(tables[0], 0), phrase(), open_one;
+        return connects(tables[0], 0), phrase(LABEL), open_one;
+    if (strcmp(name, "open-note") == 0)
+        return connects(tables[0], 0), phrase(NOTE), open_one;
     if (strcmp(name, "open-branches") == 0)
         return connects(tables[0], 0), branches(), open_one;
+    if (strcmp(name, "open-widest") == 0)
+        return connects(tables[0], 0), widest(), open_one;
     if (strcmp(name, "open-relation") == 0)
         return connects(tables[0], 0), every_row(), open_one;
     if (strcmp(name, "bind") == 0)
         return cursor(0, WIDTH, columns, 5), send_one;
     if (strcmp(name, "page-numbers") == 0)
         return cursor(0, 24, numbers, 2), asks_rows(20, 24, 512), send_one;
+    if (strcmp(name, "page-0") == 0)
+        return cursor(0, WIDTH, columns, 5), asks_rows(0, WIDTH, 512), send_one;
+    if (strcmp(name, "page-10") == 0)
+        return cursor(0, WIDTH, columns, 5), asks_rows(10, WIDTH, BUFFER), send_one;
     if (strcmp(name, "page-20") == 0)
         return cursor(0, WIDTH, columns, 5), asks_rows(20, WIDTH, 4096), send_one;
     if (strcmp(name, "page-100") == 0)
@@ -196,6 +220,22 @@ static void (*task(const char *name))(u32 *)
         return every_row(), walk;
     printf("no such call: %s\n", name);
     exit(2);
+}
+
+static void lend(const char *name)
+{
+    if (strcmp(name, "largest") == 0) {
+        rows = ROWS_MOST;
+        size = put_largest(catalogue, LABEL_LEAST);
+        return;
+    }
+    int spaces = strcmp(name, "spaces") == 0, numbered = !spaces && strcmp(name, "words") != 0;
+    rows = numbered ? (u64)atoi(name) : LONG_ROWS;
+    if (rows == 0 || rows > ROWS_MOST) {
+        printf("no such catalogue: %s\n", name);
+        exit(2);
+    }
+    size = numbered ? put_catalogue(catalogue, rows, LABEL_LEAST) : put_long_notes(catalogue, rows, LABEL_LEAST, spaces);
 }
 
 int main(int count, char **argument)
@@ -208,12 +248,11 @@ int main(int count, char **argument)
         return 0;
     }
     if (count != 5) {
-        printf("usage: calls ours|peer CALL ROWS COUNT, or calls fit BYTES\n");
+        printf("usage: calls ours|peer CALL ROWS|words|spaces|largest COUNT, or calls fit BYTES\n");
         return 2;
     }
     ours = strcmp(argument[1], "ours") == 0;
-    rows = (u64)atoi(argument[3]);
-    size = put_catalogue(catalogue, rows, LABEL_LEAST);
+    lend(argument[3]);
     void (*once)(u32 *) = task(argument[2]);
     copies();
     for (int i = 0; i < atoi(argument[4]) && i < TABLES; i++)

@@ -248,6 +248,7 @@ static const uint8_t *checked_number(const uint8_t *at, const uint8_t *end,
     return NULL;
 }
 
+#ifndef PEER_TUNED /* tuned.c has its own, here and below */
 /* Nonzero where one of four units is zero. One is taken from each: where none
    is zero, nothing is borrowed and no top bit that was clear becomes set; the
    first zero unit gets its top bit set. Whether a unit is zero doesn't depend
@@ -276,13 +277,33 @@ static bool holds_zero_unit(const uint8_t *at, size_t units)
     return false;
 }
 
+/* A text's count of units plus one. */
+static inline const uint8_t *checked_count(const uint8_t *at,
+                                           const uint8_t *end,
+                                           uint32_t *count_plus_one)
+{
+    return checked_number(at, end, count_plus_one);
+}
+
+/* Key, language and default. */
+static inline const uint8_t *checked_numbers(const uint8_t *at,
+                                             const uint8_t *end)
+{
+    for (unsigned number = 0; at != NULL && number < 3; number++) {
+        uint32_t ignored;
+        at = checked_number(at, end, &ignored);
+    }
+    return at;
+}
+#endif
+
 /* "A label or note is 0 for absent, else its count of UTF-16 units plus one
    (at most 2,048 units), then the units, two bytes each, low byte first, none
    of them zero." Answers the byte after it, or NULL. */
 static const uint8_t *checked_text(const uint8_t *at, const uint8_t *end)
 {
     uint32_t count_plus_one;
-    at = checked_number(at, end, &count_plus_one);
+    at = checked_count(at, end, &count_plus_one);
     if (at == NULL || count_plus_one == 0)
         return at;
     size_t units = count_plus_one - 1;
@@ -295,10 +316,7 @@ static const uint8_t *checked_text(const uint8_t *at, const uint8_t *end)
 /* "for each row: key, language, default, label, note". */
 static const uint8_t *checked_row(const uint8_t *at, const uint8_t *end)
 {
-    for (unsigned number = 0; at != NULL && number < 3; number++) {
-        uint32_t ignored;
-        at = checked_number(at, end, &ignored);
-    }
+    at = checked_numbers(at, end);
     for (unsigned text = 0; at != NULL && text < 2; text++)
         at = checked_text(at, end);
     return at;
@@ -326,6 +344,7 @@ static bool read_catalogue(const uint8_t *bytes, size_t length,
     return at == end;
 }
 
+#ifndef PEER_TUNED
 /* Reads one number of a catalogue that was found well formed. */
 static inline uint32_t next_number(const uint8_t **at)
 {
@@ -358,6 +377,7 @@ static void read_row(const struct catalogue *catalogue, struct peer_row which,
     for (unsigned text = 0; text < 2; text++)
         row->texts[text] = next_text(&at);
 }
+#endif
 
 static inline uint32_t number_of(const struct row *row, uint32_t property)
 {
@@ -475,6 +495,7 @@ static inline uint32_t *cursor_block(uint32_t *seat, unsigned place)
     return seat + SEAT_CURSORS + place * CURSOR_WORDS;
 }
 
+#ifndef PEER_TUNED
 /* Sixteen words are joined at a time, without a branch for each. */
 static bool all_zero(const uint32_t *words, size_t count)
 {
@@ -491,6 +512,15 @@ static bool all_zero(const uint32_t *words, size_t count)
             return false;
     return true;
 }
+
+static bool rise_strictly(const uint32_t *numbers, uint32_t count)
+{
+    for (uint32_t next = 1; next < count; next++)
+        if (numbers[next - 1] >= numbers[next])
+            return false;
+    return true;
+}
+#endif
 
 /* "a word not in use (closed cursor, unconnected seat, past a list's end)
    isn't zero": a column's offset and size are not in use under an unset flag.
@@ -535,10 +565,8 @@ static bool cursor_selection_well_formed(const uint32_t *cursor)
     const uint32_t *row_numbers = cursor + CURSOR_ROW_NUMBERS;
     if (selected > PEER_ROWS || cursor[CURSOR_POSITION] > selected)
         return false;
-    for (uint32_t next = 1; next < selected; next++)
-        if (row_numbers[next - 1] >= row_numbers[next])
-            return false;
-    return all_zero(row_numbers + selected, PEER_ROWS - selected);
+    return rise_strictly(row_numbers, selected) &&
+           all_zero(row_numbers + selected, PEER_ROWS - selected);
 }
 
 static bool cursor_well_formed(const uint32_t *cursor)
@@ -798,6 +826,7 @@ static bool phrase_occurs(const struct text *text, const struct node *content)
     return false;
 }
 
+#ifndef PEER_TUNED
 /* The row's value, the relation, the tree's value, all unsigned. */
 static bool relation_holds(uint32_t value, uint32_t relation, uint32_t other)
 {
@@ -841,6 +870,7 @@ static bool satisfies(const struct tree *tree, uint32_t number,
             return looked_for;
     return !looked_for;
 }
+#endif
 
 /* Writes the numbers of the selected rows, rising, and answers their count. */
 static uint32_t select_rows(const struct catalogue *catalogue,
@@ -1019,56 +1049,10 @@ enum { ROWS_PAST_RESERVED = 12 };
 /* "Status 0x00040EC6 if none then remain, else 0." */
 enum { END_OF_ROWSET = 0x00040EC6 };
 
-/* A reply as it is filled: rows upward from R, "Blocks go downward from byte
-   B, rows in order, columns in binding order." */
-struct page {
-    uint8_t *reply;
-    uint32_t client_base;
-    uint32_t row_width;
-    uint32_t column_count;
-    const uint32_t *columns;
-    uint32_t rows_end;     /* the place after the last row */
-    uint32_t blocks_start; /* the place of the lowest block */
-};
-
 /* "a block: its units and one zero unit". */
 static inline uint32_t block_bytes(const struct text *text)
 {
     return 2 * text->units + 2;
-}
-
-/* "Each label or note that is present and bound with its value used has a
-   block". */
-static uint32_t row_block_bytes(const struct page *page, const struct row *row)
-{
-    uint32_t bytes = 0;
-    for (uint32_t number = 0; number < page->column_count; number++) {
-        const uint32_t *column = page->columns + number * COLUMN_WORDS;
-        if (!column[COLUMN_VALUE_USED] || !is_text(column[COLUMN_PROPERTY]))
-            continue;
-        const struct text *text = text_of(row, column[COLUMN_PROPERTY]);
-        if (text->present)
-            bytes += block_bytes(text);
-    }
-    return bytes;
-}
-
-/* "K rows fit when R + K × W + their blocks is at most B": one more row fits
-   when it and its blocks go between the rows and the blocks so far. */
-static bool row_fits(const struct page *page, const struct row *row)
-{
-    return page->rows_end + page->row_width + row_block_bytes(page, row) <=
-           page->blocks_start;
-}
-
-/* The units as they stand in the catalogue, low byte first. The reply's bytes
-   are zero already, the block's zero unit too. */
-static uint32_t place_block(struct page *page, const struct text *text)
-{
-    page->blocks_start -= block_bytes(text);
-    memcpy(page->reply + page->blocks_start, text->bytes,
-           2 * (size_t)text->units);
-    return page->blocks_start;
 }
 
 /* "A 16-byte cell is type (2 bytes), 6 zero bytes, then 8: ... in the first
@@ -1097,9 +1081,74 @@ static void carry_number(uint8_t *row, const uint32_t *column, uint32_t number)
         put32(row + column[COLUMN_LENGTH_OFFSET], NUMBER_BYTES);
 }
 
+/* A reply as it is filled: rows upward from R, "Blocks go downward from byte
+   B, rows in order, columns in binding order." */
+struct page {
+    uint8_t *reply;
+    uint32_t client_base;
+    uint32_t row_width;
+    const uint32_t *columns, *columns_end;
+    uint32_t rows_end;     /* the place after the last row */
+    uint32_t blocks_start; /* the place of the lowest block */
+#ifdef PEER_TUNED
+    bool has_block[2]; /* label and note, where they are present */
+#endif
+};
+
+#ifndef PEER_TUNED
+/* "Each label or note that is present and bound with its value used has a
+   block". */
+static uint32_t row_block_bytes(const struct page *page, const struct row *row)
+{
+    uint32_t bytes = 0;
+    for (const uint32_t *column = page->columns; column != page->columns_end;
+         column += COLUMN_WORDS) {
+        if (!column[COLUMN_VALUE_USED] || !is_text(column[COLUMN_PROPERTY]))
+            continue;
+        const struct text *text = text_of(row, column[COLUMN_PROPERTY]);
+        if (text->present)
+            bytes += block_bytes(text);
+    }
+    return bytes;
+}
+
+static void copy_units(uint8_t *to, const uint8_t *from, size_t bytes)
+{
+    memcpy(to, from, bytes);
+}
+#endif
+
+static struct page start_page(const struct rows_request *request,
+                              const uint32_t *cursor, uint8_t *reply)
+{
+    const uint32_t *columns = cursor + CURSOR_COLUMNS;
+    struct page page = {
+        .reply = reply,
+        .client_base = request->client_base,
+        .row_width = cursor[CURSOR_ROW_WIDTH],
+        .columns = columns,
+        .columns_end = columns + cursor[CURSOR_COLUMN_COUNT] * COLUMN_WORDS,
+        .rows_end = request->reserved + ROWS_PAST_RESERVED,
+        .blocks_start = request->read_buffer,
+    };
+#ifdef PEER_TUNED
+    find_blocks(&page);
+#endif
+    return page;
+}
+
+/* "K rows fit when R + K × W + their blocks is at most B": one more row fits
+   when it and its blocks go between the rows and the blocks so far. */
+static bool row_fits(const struct page *page, const struct row *row)
+{
+    return page->rows_end + page->row_width + row_block_bytes(page, row) <=
+           page->blocks_start;
+}
+
 /* "0x001F with _ulClientBase plus the block's place from the reply's start in
    the first 4; absent text, 16 zeros." "for text two bytes a unit and two more,
-   also where no value is bound; 0 if absent." */
+   also where no value is bound; 0 if absent." A block has the units as they
+   stand in the catalogue, low byte first; its zero unit is zero already. */
 static void carry_text(struct page *page, uint8_t *row, const uint32_t *column,
                        const struct text *text)
 {
@@ -1108,18 +1157,22 @@ static void carry_text(struct page *page, uint8_t *row, const uint32_t *column,
             row[column[COLUMN_STATUS_OFFSET]] = STATUS_ABSENT;
         return;
     }
-    if (column[COLUMN_VALUE_USED])
+    uint32_t bytes = block_bytes(text);
+    if (column[COLUMN_VALUE_USED]) {
+        page->blocks_start -= bytes;
         write_cell(row + column[COLUMN_VALUE_OFFSET], TYPE_TEXT,
-                   page->client_base + place_block(page, text));
+                   page->client_base + page->blocks_start);
+        copy_units(page->reply + page->blocks_start, text->bytes, bytes - 2);
+    }
     if (column[COLUMN_LENGTH_USED])
-        put32(row + column[COLUMN_LENGTH_OFFSET], block_bytes(text));
+        put32(row + column[COLUMN_LENGTH_OFFSET], bytes);
 }
 
 static void carry_row(struct page *page, const struct row *row)
 {
     uint8_t *cells = page->reply + page->rows_end;
-    for (uint32_t number = 0; number < page->column_count; number++) {
-        const uint32_t *column = page->columns + number * COLUMN_WORDS;
+    for (const uint32_t *column = page->columns; column != page->columns_end;
+         column += COLUMN_WORDS) {
         uint32_t property = column[COLUMN_PROPERTY];
         if (is_text(property))
             carry_text(page, cells, column, text_of(row, property));
@@ -1127,20 +1180,6 @@ static void carry_row(struct page *page, const struct row *row)
             carry_number(cells, column, number_of(row, property));
     }
     page->rows_end += page->row_width;
-}
-
-static struct page start_page(const struct rows_request *request,
-                              const uint32_t *cursor, uint8_t *reply)
-{
-    return (struct page){
-        .reply = reply,
-        .client_base = request->client_base,
-        .row_width = cursor[CURSOR_ROW_WIDTH],
-        .column_count = cursor[CURSOR_COLUMN_COUNT],
-        .columns = cursor + CURSOR_COLUMNS,
-        .rows_end = request->reserved + ROWS_PAST_RESERVED,
-        .blocks_start = request->read_buffer,
-    };
 }
 
 /* "the reply's row j is the selected row at the old position plus j." */

@@ -79,15 +79,21 @@ run_plain() {
     if [ -n "$own_compiler" ]; then "$@"; else run_program "$@"; fi
 }
 
-# replay_proved ROOT: the program replay is proved and built where it is not there, or its sources changed
+# replay_proved ROOT [READER]: the program replay is proved and built where it is not there, or its sources changed. What rt says
+# goes into target/replay.log, and line by line, as it comes, to the command READER.
 replay_proved() {
-    local program=$1/target/bin/replay
+    local program=$1/target/bin/replay log=$1/target/replay.log
     if [ -x "$program" ] && [ -z "$(find "$1/crates" "$1/crates.txt" -newer "$program" -type f -print -quit)" ]; then
         return
     fi
     mkdir -p "$1/target"
     # what is edited from here on is newer than the program
     touch "$1/target/replay.began"
-    (cd "$1" && rt check replay) >"$1/target/replay.log" 2>&1 || { cat "$1/target/replay.log" >&2; return 1; }
+    (cd "$1" && rt check replay) 2>&1 | tee "$log" | "${2:-nobody_reads}"
+    [ "${PIPESTATUS[0]}" -eq 0 ] || { cat "$log" >&2; return 1; }
     touch -r "$1/target/replay.began" "$program"
+}
+
+nobody_reads() {
+    cat >/dev/null
 }

@@ -38,10 +38,16 @@ u64 put_number(byte *to, u64 at, u64 v)
     return at;
 }
 
-static u64 put_text(byte *to, u64 at, u64 units, u64 turn)
+static const char board[] = "fan start of restart limit a boot before starting order memory ";
+static const char sevens[] = "battery monitor standby network storage session restart setting ";
+
+/* a text of these words over and over, from another one at each turn */
+static u64 put_text(byte *to, u64 at, u64 units, const char *words, u64 turn)
 {
-    static const char words[] = "fan start of restart limit a boot before starting order memory ";
-    const char *next = words + turn * 11 % (sizeof words - 1);
+    u64 count = 0;
+    while (words[count] != 0)
+        count++;
+    const char *next = words + turn * 11 % count;
     at = put_number(to, at, units + 1);
     for (u64 i = 0; i < units; i++) {
         to[at++] = (byte)*next++;
@@ -51,15 +57,46 @@ static u64 put_text(byte *to, u64 at, u64 units, u64 turn)
     return at;
 }
 
+/* key and language of a row */
+static u64 put_option(byte *to, u64 at, u64 row)
+{
+    return put_number(to, put_number(to, at, 1000 + 37 * row), 1031 + row % 23);
+}
+
+static u64 put_label(byte *to, u64 at, u64 row, u64 least)
+{
+    return put_text(to, at, least + row * 7 % 16, board, row);
+}
+
 u64 put_catalogue(byte *to, u64 rows, u64 label)
 {
     u64 at = put_number(to, 0, rows);
     for (u64 i = 0; i < rows; i++) {
-        at = put_number(to, at, 1000 + 37 * i);
-        at = put_number(to, at, 1031 + i % 23);
-        at = put_number(to, at, i * i % 5000);
-        at = put_text(to, at, label + i * 7 % 16, i);
-        at = i % 3 == 0 ? put_text(to, at, 2 * (label + i * 5 % 16), i + 1) : put_number(to, at, 0);
+        at = put_number(to, put_option(to, at, i), i * i % 5000);
+        at = put_label(to, at, i, label);
+        at = i % 3 == 0 ? put_text(to, at, 2 * (label + i * 5 % 16), board, i + 1) : put_number(to, at, 0);
+    }
+    return at;
+}
+
+u64 put_long_notes(byte *to, u64 rows, u64 label, int spaces)
+{
+    u64 at = put_number(to, 0, rows);
+    for (u64 i = 0; i < rows; i++) {
+        at = put_number(to, put_option(to, at, i), i * i % 5000);
+        at = put_text(to, put_label(to, at, i, label), 2048, spaces ? " " : sevens, i);
+    }
+    return at;
+}
+
+/* Where a row's default stands at an even place it has one group, else two: so its note has two bytes a unit left up to its end. */
+u64 put_largest(byte *to, u64 label)
+{
+    u64 at = put_number(to, 0, 1024);
+    for (u64 i = 0; i < 1024; i++) {
+        at = put_option(to, at, i);
+        at = put_label(to, put_number(to, at, at % 2 == 0 ? i % 128 : 128 + i * i % 5000), i, label);
+        at = put_text(to, at, (1024 * (i + 1) - at - 2) / 2, sevens, i);
     }
     return at;
 }
@@ -81,6 +118,11 @@ static u64 put_node(byte *to, u64 at, u32 kind)
 u64 put_and(byte *to, u64 at, u32 children)
 {
     return put_word(to, put_node(to, at, 1), children);
+}
+
+u64 put_or(byte *to, u64 at, u32 children)
+{
+    return put_word(to, put_node(to, at, 2), children);
 }
 
 u64 put_phrase(byte *to, u64 at, u32 property, const char *phrase, u32 method)

@@ -18,8 +18,15 @@ u64 put_number(byte *to, u64 at, u64 v);
    every third row a note of twice that. Texts are words of one to eight letters, "start" and "restart" among them. */
 u64 put_catalogue(byte *to, u64 rows, u64 label);
 
-/* Parts of a tree, which begins at place 0: an and with so many children to follow, a content restriction, a relation. */
+/* The same with a note of 2,048 units in every row: words of seven letters, among which "start" is none, or spaces alone. */
+u64 put_long_notes(byte *to, u64 rows, u64 label, int spaces);
+
+/* The largest catalogue there is: 1,024 rows of 1,024 bytes, the notes of words of seven letters. */
+u64 put_largest(byte *to, u64 label);
+
+/* Parts of a tree, which begins at place 0: an and or an or with so many children to follow, a content restriction, a relation. */
 u64 put_and(byte *to, u64 at, u32 children);
+u64 put_or(byte *to, u64 at, u32 children);
 u64 put_phrase(byte *to, u64 at, u32 property, const char *phrase, u32 method);
 u64 put_relation(byte *to, u64 at, u32 property, u32 relation, u32 value);
 

@@ -10,12 +10,11 @@ use Rattle.lists.specs.Below.{both}
 use Rattle.lists.proofs.Below.{both-left, both-right}
 use Rattle.lists.specs.Every.{every, pairwise}
 use Rattle.bindings.specs.Fit.{spansOf, apart, spanOf}
-use Rattle.bindings.specs.SpanPlaces.{partIf}
 use Rattle.bindings.specs.Sound.{column}
 use Rattle.bindings.specs.declared.Column.{Column}
 use Rattle.bindings.specs.declared.Span.{Span}
 use Rattle.lists.proofs.Every.{all-three, all-four}
-use Rattle.bindings.proofs.Spans.{none, apart-none, every-if, pair-if}
+use Rattle.bindings.proofs.Spans.{none, apart-none, partIf, every-if, pair-if}
 
 -- the three parts of a column in front of others
 module _ (test : Span → Bool) (e : test none ≡ true) (c : Column) (s : List Span) where

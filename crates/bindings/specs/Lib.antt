@@ -4,7 +4,6 @@ pub mod Sound
 pub mod Plain
 pub mod Writer
 pub mod Examples
-pub mod SpanPlaces
 pub mod ColumnPlaces
 pub mod BindingsPlaces
 pub mod BindingsTold

@@ -13,9 +13,9 @@ fn column_fits(records: &[u32], index: usize) -> bool
 {
     let at = bindings::COLUMN_WORDS * index;
     let property = records[at];
-    let vtype = records[at + 1];
-    let used = records[at + 2];
-    let given = records[at + 4];
+    let vtype = records[at + bindings::VTYPE];
+    let used = records[at + bindings::VALUE_USED];
+    let given = records[at + bindings::VALUE_SIZE];
     if !lists_test::within(wire::KEY, wire::NOTE, property) {
         return false;
     }

@@ -29,14 +29,14 @@ pub fn keep(records: &mut [u32], index: usize, column: Column)
     }
     let at = bindings::COLUMN_WORDS * index;
     records[at] = column.property;
-    records[at + 1] = column.vtype;
-    records[at + 2] = column.value.used;
-    records[at + 3] = column.value.offset;
-    records[at + 4] = column.value.size;
-    records[at + 5] = column.status.used;
-    records[at + 6] = column.status.offset;
-    records[at + 7] = column.length.used;
-    records[at + 8] = column.length.offset;
+    records[at + bindings::VTYPE] = column.vtype;
+    records[at + bindings::VALUE_USED] = column.value.used;
+    records[at + bindings::VALUE_OFFSET] = column.value.offset;
+    records[at + bindings::VALUE_SIZE] = column.value.size;
+    records[at + bindings::STATUS_USED] = column.status.used;
+    records[at + bindings::STATUS_OFFSET] = column.status.offset;
+    records[at + bindings::LENGTH_USED] = column.length.used;
+    records[at + bindings::LENGTH_OFFSET] = column.length.offset;
 }
 
 // The k-th column of the bindings.
@@ -46,21 +46,21 @@ pub fn column_at(records: &[u32], index: usize) -> Column
 {
     let at = bindings::COLUMN_WORDS * index;
     let value = Value {
-        used: records[at + 2],
-        offset: records[at + 3],
-        size: records[at + 4],
+        used: records[at + bindings::VALUE_USED],
+        offset: records[at + bindings::VALUE_OFFSET],
+        size: records[at + bindings::VALUE_SIZE],
     };
     let status = Spot {
-        used: records[at + 5],
-        offset: records[at + 6],
+        used: records[at + bindings::STATUS_USED],
+        offset: records[at + bindings::STATUS_OFFSET],
     };
     let length = Spot {
-        used: records[at + 7],
-        offset: records[at + 8],
+        used: records[at + bindings::LENGTH_USED],
+        offset: records[at + bindings::LENGTH_OFFSET],
     };
     Column {
         property: records[at],
-        vtype: records[at + 1],
+        vtype: records[at + bindings::VTYPE],
         value,
         status,
         length,

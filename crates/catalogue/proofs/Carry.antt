@@ -91,6 +91,11 @@ pub groups-more : (s : List ℕ) (i : ℕ) → i < length s → 128 ≤ getD s i
 unfolding groups
 groups-more s i h b = rw (add-one, drop-cons s i 0 h, le-ltb (getD s i 0) 128 b)
 
+-- a group with its top bit set before groups that do not hold zero
+pub groups-on : (s : List ℕ) (i j v n : ℕ) → j ≡ i + 1 → i < length s → 128 ≤ getD s i 0 → groups (drop j s) ≡ some (v, n) → (v ≡ 0 → ⊥)
+    → groups (drop i s) ≡ some (getD s i 0 - 128 + 128 * v, n + 1)
+groups-on s i j v n p h b e z = groups-more s i h b ∙ rw (← p, e, ne-eqb v 0 z)
+
 -- the ways a step can go: the bytes end; a last group; a group with its top bit set
 module _ (value weight room : ℕ) (s : List ℕ) (i : ℕ) where
   pub carry-end : length s ≤ i → carry value weight room i (groups (drop i s)) ≡ Malformed
@@ -149,3 +154,7 @@ module _ (limit : ℕ) (s : List ℕ) (at : ℕ) where
       → readingAt limit s at ≡ placed at (within limit (further (getD s at 0 - 128) (groups (drop (at + 1) s))))
   unfolding readingAt
   reading-more h b = rw (groups-more s at h b)
+
+  pub reading-groups : (value count : ℕ) → groups (drop at s) ≡ some (value, count) → value ≤ limit → readingAt limit s at ≡ Number value (at + count)
+  unfolding readingAt
+  reading-groups value count e o = rw (e, le-leb value limit o)

@@ -1,5 +1,6 @@
 pub mod Carry
 pub mod Inside
+pub mod Standing
 pub mod NumberRoundTrip
 pub mod NumberVectors
 pub mod RowLaws
@@ -12,3 +13,4 @@ pub mod EndLaws
 pub mod RowsLaws
 pub mod CheckLaws
 pub mod Numbered
+pub mod Words

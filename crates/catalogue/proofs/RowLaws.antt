@@ -17,16 +17,17 @@ use Rattle.catalogue.specs.declared.Reading.the-variants.{Number, Malfor
 use Rattle.catalogue.proofs.Inside.{Read, reading-read}
 use Rattle.catalogue.specs.Limits.{keyMost, numberMost, sizeMost}
 use Rattle.catalogue.specs.Plain.{noneZero}
-use Rattle.catalogue.specs.CataloguePlaces.{withNumber, withText, unitBytesOf, unitsPart, textAfterAt, textAt, rowAt}
-use Rattle.catalogue.specs.CatalogueReady.{TextAtReady, RowAtReady, UnitsReady, FieldsReady}
+use Rattle.catalogue.specs.CataloguePlaces.{withNumber, withText, withRow, unitBytesOf, unitsPart, textAfterAt, textAt, rowAt, rowOf, rowSeen, noFields, fieldsSeen}
+use Rattle.catalogue.specs.CatalogueReady.{NumberAtReady, TextAtReady, RowAtReady, UnitsReady, FieldsReady}
 use Rattle.catalogue.specs.declared.Text.{Text}
 use Rattle.catalogue.specs.declared.Fields.{Fields}
 use Rattle.catalogue.specs.declared.TextAt.{TextAt}
 use Rattle.catalogue.specs.declared.TextAt.the-variants.{TextTo, NoText}
+use Rattle.catalogue.specs.declared.RowAt.{RowAt}
 use Rattle.catalogue.specs.declared.RowAt.the-variants.{RowTo, NoRow}
 
 -- an answer that is not the bad one came by what was read
-number-inv : {A : Type 0} (bad : A) (r : Reading) (next : ℕ → ℕ → A) (a : A) → (bad ≡ a → ⊥) → withNumber r bad next ≡ a
+pub number-inv : {A : Type 0} (bad : A) (r : Reading) (next : ℕ → ℕ → A) (a : A) → (bad ≡ a → ⊥) → withNumber r bad next ≡ a
     → (v : ℕ) × (p : ℕ) × (r ≡ Number v p) × (next v p ≡ a)
 number-inv bad Malformed next a n e = absurd (n e)
 number-inv bad (Number v p) next a n e = (v, p, refl, e)
@@ -132,7 +133,32 @@ row-ready s at f next e =
       note = text-ready s (r .labelNext) (f .note) next (r .note);
     }
 
--- a text that stands at a place is known by its size, and a row's texts stand where its numbers end
+-- the fields found at a place stand in the bytes, and are those of the row seen there
+pub seen-stand : (s : List ℕ) (at : ℕ) → FieldsReady s (fieldsSeen s at)
+seen-stand s at = go (rowAt s at) refl
+  where
+    empty : UnitsReady s (record { size = 0; start = 0 })
+    empty = record { small = omega arith; inside = omega arith }
+
+    go : (r : RowAt) → rowAt s at ≡ r → FieldsReady s (withRow r noFields (λ f next. f))
+    go NoRow e = record { key = omega arith; language = omega arith; default = omega arith; label = empty; note = empty }
+    go (RowTo f next) e = row-ready s at f next e
+
+pub seen-row : (s : List ℕ) (at : ℕ) → rowOf s (fieldsSeen s at) ≡ rowSeen s at
+seen-row s at = go (rowAt s at)
+  where
+    go : (r : RowAt) → rowOf s (withRow r noFields (λ f next. f))
+        ≡ withRow r (rowOf s noFields) (λ f next. rowOf s f)
+    go NoRow = refl
+    go (RowTo f next) = refl
+
+-- the size of a text that stands at a place stands there, and the text is known by it
+pub size-there : (s : List ℕ) (at : ℕ) → TextAtReady s at → NumberAtReady sizeMost s at
+unfolding textAt
+size-there s at there =
+    let i = number-inv NoText (readingAt sizeMost s at) (textAfterAt s) (TextTo (there .0) (there .1)) no-text (there .2) in
+    (i .0, i .1, i .2)
+
 pub text-known : (s : List ℕ) (at size start : ℕ) → readingAt sizeMost s at ≡ Number size start → TextAtReady s at
     → TextTo (record { size = size; start = start }) (start + unitBytesOf size) ≡ textAt s at
 unfolding textAt
@@ -142,6 +168,28 @@ text-known s at size start e there =
     (both (leb (unitBytesOf size) (length s - start)) (noneZero (halves (take (unitBytesOf size) (drop start s)))))
     (λ q. rw (e, q))
     (λ q. absurd (no-text (rw q at f)))
+
+-- a row's numbers stand one after the other, and its texts where its numbers end
+pub key-there : (s : List ℕ) (at : ℕ) → RowAtReady s at → NumberAtReady keyMost s at
+unfolding rowAt
+key-there s at there =
+    let i = number-inv NoRow (readingAt keyMost s at) _ (RowTo (there .0) (there .1)) no-row (there .2) in
+    (i .0, i .1, i .2)
+
+pub language-there : (s : List ℕ) (at key at₁ : ℕ) → readingAt keyMost s at ≡ Number key at₁ → RowAtReady s at → NumberAtReady numberMost s at₁
+unfolding rowAt
+language-there s at key at₁ a there =
+    let e = rw a at (there .2) in
+    let i = number-inv NoRow (readingAt numberMost s at₁) _ (RowTo (there .0) (there .1)) no-row e in
+    (i .0, i .1, i .2)
+
+pub default-there : (s : List ℕ) (at key at₁ : ℕ) → readingAt keyMost s at ≡ Number key at₁ → (language at₂ : ℕ) → readingAt numberMost s at₁ ≡ Number language at₂
+    → RowAtReady s at → NumberAtReady numberMost s at₂
+unfolding rowAt
+default-there s at key at₁ a language at₂ b there =
+    let e = rw (a, b) at (there .2) in
+    let i = number-inv NoRow (readingAt numberMost s at₂) _ (RowTo (there .0) (there .1)) no-row e in
+    (i .0, i .1, i .2)
 
 module _ (s : List ℕ) (at key at₁ language at₂ default at₃ : ℕ) (a : readingAt keyMost s at ≡ Number key at₁) (b : readingAt numberMost s at₁ ≡ Number language at₂)
     (c : readingAt numberMost s at₂ ≡ Number default at₃) (there : RowAtReady s at) where

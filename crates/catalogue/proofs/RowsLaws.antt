@@ -15,7 +15,7 @@ use Rattle.catalogue.specs.declared.RowAt.the-variants.{RowTo, NoRow}
 use Rattle.catalogue.proofs.RowLaws.{row-read}
 use Rattle.catalogue.proofs.Found.{gone, there}
 
-row-cases : (P : RowAt → Type 0) → P NoRow → ((f : Fields) (p : ℕ) → P (RowTo f p)) → (r : RowAt) → P r
+pub row-cases : (P : RowAt → Type 0) → P NoRow → ((f : Fields) (p : ℕ) → P (RowTo f p)) → (r : RowAt) → P r
 row-cases P bad to NoRow = bad
 row-cases P bad to (RowTo f p) = to f p
 

@@ -1,13 +1,13 @@
 -- The option catalogue by places in its list of bytes: what the code follows. proofs/Agree.antt shows that it says what the
 -- plain parser says.
-use mathlib.Core.Bool.{Bool, false}
+use mathlib.Core.Bool.{Bool, false, not}
 use mathlib.Core.List.{List, [], _∷_}
 use mathlib.Core.Option.{Option, none, some}
 use Prim.Native.Nat.{ℕ, zero, suc, _+_, _-_, _*_}
 use lib.Dec.{leb, eqb}
-use lib.ListN.{length, take, drop}
+use lib.ListN.{length, getD, take, drop}
 use lib.Seq.{sets}
-use Rattle.lists.specs.Below.{pick, both}
+use Rattle.lists.specs.Below.{pick, both, everyBelow}
 use Rattle.wire.specs.Word.{halves}
 use Rattle.catalogue.specs.NumberPlaces.{readingAt}
 use Rattle.catalogue.specs.declared.Reading.{Reading}
@@ -64,7 +64,18 @@ rowAt s at =
     withText (textAt s at₄) NoRow λ note at₅.
     RowTo (record { key = key; language = language; default = default; label = label; note = note }) at₅
 
--- the place after a text and after a row, 0 where there is none
+-- "none of them zero", of one unit, and of so many from one on
+abbrev pub unitClear : List ℕ → ℕ → Bool
+unitClear units i = not (eqb (getD (halves units) i 0) 0)
+
+abbrev pub clearFrom : List ℕ → ℕ → ℕ → Bool
+clearFrom units first count = everyBelow count (λ i. unitClear units (first + i))
+
+-- the place after a number, after a text and after a row, 0 where there is none
+abbrev pub readingEnd : Reading → ℕ
+readingEnd Malformed = 0
+readingEnd (Number v at) = at
+
 abbrev pub textEnd : TextAt → ℕ
 textEnd NoText = 0
 textEnd (TextTo t at) = at
@@ -72,6 +83,17 @@ textEnd (TextTo t at) = at
 abbrev pub rowEnd : RowAt → ℕ
 rowEnd NoRow = 0
 rowEnd (RowTo f at) = at
+
+-- the place after "key, language, default", and after so many texts, 0 where there is one that does not stand
+unfoldable pub numbersEnd : List ℕ → ℕ → ℕ
+numbersEnd s at =
+    withNumber (readingAt keyMost s at) 0 λ key at₁.
+    withNumber (readingAt numberMost s at₁) 0 λ language at₂.
+    readingEnd (readingAt numberMost s at₂)
+
+unfoldable pub textsEnd : ℕ → List ℕ → ℕ → ℕ
+textsEnd zero s at = at
+textsEnd (suc n) s at = withText (textAt s at) 0 λ t next. textsEnd n s next
 
 -- n rows stand from a place on, and "no bytes may follow"
 unfoldable pub rowsEnd : ℕ → List ℕ → ℕ → Bool
@@ -128,3 +150,19 @@ noFields =
 
 abbrev pub fieldsSeen : List ℕ → ℕ → Fields
 fieldsSeen s at = withRow (rowAt s at) noFields λ f next. f
+
+-- the fields of a row as seven words, which are lent where a struct would be copied at every call: its numbers, then its label and
+-- its note, each as a size and a start
+abbrev pub wordsOf : Fields → List ℕ
+wordsOf f =
+    f .key ∷ f .language ∷ f .default ∷ f .label .size ∷ f .label .start ∷ f .note .size ∷ f .note .start ∷ []
+
+abbrev pub fieldsOf : List ℕ → Fields
+fieldsOf words =
+    record {
+      key = getD words 0 0;
+      language = getD words 1 0;
+      default = getD words 2 0;
+      label = record { size = getD words 3 0; start = getD words 4 0 };
+      note = record { size = getD words 5 0; start = getD words 6 0 };
+    }

@@ -4,14 +4,19 @@ use mathlib.Core.List.{List}
 use Prim.Native.Nat.{ℕ, _+_, _≤_, _<_}
 use Rattle.catalogue.specs.declared.Text.{Text}
 use Rattle.catalogue.specs.declared.Fields.{Fields}
+use Rattle.catalogue.specs.declared.Reading.the-variants.{Number}
 use Rattle.catalogue.specs.declared.TextAt.the-variants.{TextTo}
 use Rattle.catalogue.specs.declared.RowAt.the-variants.{RowTo}
+use Rattle.catalogue.specs.NumberPlaces.{readingAt}
 use Rattle.catalogue.specs.CataloguePlaces.{textAt, rowAt, unitBytesOf, rowSeen}
 use lib.ListN.{length, getD}
 use Rattle.catalogue.specs.Limits.{keyMost, numberMost, sizeMost}
 use Rattle.catalogue.specs.Plain.{catalogue, rowsOf, rowIn}
 
--- a text and a row stand at a place
+-- a number, a text and a row stand at a place
+abbrev pub NumberAtReady : ℕ → List ℕ → ℕ → Type 0
+NumberAtReady limit s at = (v : ℕ) × (next : ℕ) × (readingAt limit s at ≡ Number v next)
+
 abbrev pub TextAtReady : List ℕ → ℕ → Type 0
 TextAtReady s at = (t : Text) × (next : ℕ) × (textAt s at ≡ TextTo t next)
 

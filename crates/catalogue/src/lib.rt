@@ -39,6 +39,9 @@ pub struct Fields {
     pub note: Text,
 }
 
+// The words that hold them: a struct is copied at every call, an array is lent.
+pub const FIELD_WORDS: usize = 7;
+
 // A row with the place after it.
 pub enum RowAt {
     RowTo(Fields, usize),

@@ -3,11 +3,10 @@ ghost use mathlib.Core.Path.{_≡_};
 ghost use Prim.Native.Nat.{_+_, _^_, _≤_, _<_};
 ghost use lib.ListN.{length};
 ghost use Rattle.catalogue.specs.Limits.{sizeMost};
-ghost use Rattle.catalogue.specs.CataloguePlaces.{unitBytesOf, unitsPart, textAt, rowAt, fieldsSeen};
-ghost use Rattle.catalogue.specs.CatalogueReady.{TextAtReady, RowAtReady};
-use catalogue::Fields;
+ghost use Rattle.catalogue.specs.CataloguePlaces.{unitBytesOf, unitsPart, textAt, fieldsSeen, wordsOf};
+ghost use Rattle.catalogue.specs.NumberPlaces.{readingAt};
+ghost use Rattle.catalogue.specs.CatalogueReady.{NumberAtReady, TextAtReady, RowAtReady};
 use catalogue::Reading;
-use catalogue::RowAt;
 use catalogue::Text;
 use catalogue::TextAt;
 
@@ -33,13 +32,28 @@ pub fn units(catalogue: &[u8], text: Text) -> &[u8]
     &catalogue[start..end]
 }
 
+// The number that is known to stand at a place. Most have one group or two, which need no test of the end or the limit.
+fn number_again(catalogue: &[u8], at: usize, limit: u64) -> Reading
+    requires { ⌜ NumberAtReady limit (now catalogue) at ⌝ }
+    ensures { λ r. ⌜ r ≡ readingAt limit (now (catalogue .entry)) at ⌝ }
+{
+    let first = catalogue[at] as u64;
+    if first < 128 {
+        return Reading::Number(first, at + 1);
+    }
+    let second = catalogue[at + 1] as u64;
+    if second < 128 {
+        return Reading::Number(first - 128 + second * 128, at + 2);
+    }
+    catalogue_number::read(catalogue, at, limit)
+}
+
 // The text that is known to stand at a place: its units are not looked at again.
 fn text_again(catalogue: &[u8], at: usize) -> TextAt
     requires { ⌜ TextAtReady (now catalogue) at ⌝ }
     ensures { λ r. ⌜ r ≡ textAt (now (catalogue .entry)) at ⌝ }
 {
-    let Reading::Number(told, start) = catalogue_number::read(catalogue, at, catalogue::SIZE_MOST)
-    else {
+    let Reading::Number(told, start) = number_again(catalogue, at, catalogue::SIZE_MOST) else {
         return TextAt::NoText;
     };
     let size = told as usize;
@@ -47,60 +61,34 @@ fn text_again(catalogue: &[u8], at: usize) -> TextAt
     TextAt::TextTo(Text { size, start }, end)
 }
 
-// The row that is known to stand at a place, as one that the check noted.
-pub fn row_again(catalogue: &[u8], at: usize) -> RowAt
+// The fields of the row that is known to stand at a place, as one that the check noted, in words.
+pub fn fields_at(catalogue: &[u8], at: usize) -> [u64; catalogue::FIELD_WORDS]
     requires { ⌜ RowAtReady (now catalogue) at ⌝ }
-    ensures { λ r. ⌜ r ≡ rowAt (now (catalogue .entry)) at ⌝ }
+    ensures { λ r. ⌜ r ≡ wordsOf (fieldsSeen (now (catalogue .entry)) at) ⌝ }
 {
-    let Reading::Number(key, at1) = catalogue_number::read(catalogue, at, catalogue::KEY_MOST)
-    else {
-        return RowAt::NoRow;
+    let nothing = [0u64; catalogue::FIELD_WORDS];
+    let Reading::Number(key, at1) = number_again(catalogue, at, catalogue::KEY_MOST) else {
+        return nothing;
     };
-    let Reading::Number(language, at2) = catalogue_number::read(
-        catalogue,
-        at1,
-        catalogue::NUMBER_MOST,
-    ) else {
-        return RowAt::NoRow;
+    let Reading::Number(language, at2) = number_again(catalogue, at1, catalogue::NUMBER_MOST) else {
+        return nothing;
     };
-    let Reading::Number(default, at3) = catalogue_number::read(
-        catalogue,
-        at2,
-        catalogue::NUMBER_MOST,
-    ) else {
-        return RowAt::NoRow;
+    let Reading::Number(default, at3) = number_again(catalogue, at2, catalogue::NUMBER_MOST) else {
+        return nothing;
     };
     let TextAt::TextTo(label, at4) = text_again(catalogue, at3) else {
-        return RowAt::NoRow;
+        return nothing;
     };
-    let TextAt::TextTo(note, at5) = text_again(catalogue, at4) else {
-        return RowAt::NoRow;
+    let TextAt::TextTo(note, _) = text_again(catalogue, at4) else {
+        return nothing;
     };
-    RowAt::RowTo(
-        Fields {
-            key,
-            language,
-            default,
-            label,
-            note,
-        },
-        at5,
-    )
-}
-
-// The fields of the row at a place that the check noted.
-pub fn fields_at(catalogue: &[u8], at: usize) -> Fields
-    requires { ⌜ RowAtReady (now catalogue) at ⌝ }
-    ensures { λ r. ⌜ r ≡ fieldsSeen (now (catalogue .entry)) at ⌝ }
-{
-    let RowAt::RowTo(fields, _) = row_again(catalogue, at) else {
-        return Fields {
-            key: 0,
-            language: 0,
-            default: 0,
-            label: Text { size: 0, start: 0 },
-            note: Text { size: 0, start: 0 },
-        };
-    };
-    fields
+    [
+        key,
+        language,
+        default,
+        label.size as u64,
+        label.start as u64,
+        note.size as u64,
+        note.start as u64,
+    ]
 }

@@ -2,7 +2,7 @@
 use mathlib.Core.Path.{_≡_, refl, sym, ap, _∙_}
 use mathlib.Core.Bool.{Bool, true, false}
 use mathlib.Core.Logic.{_⊎_, ⊎-elim}
-use Prim.Native.Nat.{ℕ, zero, suc, _+_, _<_}
+use Prim.Native.Nat.{ℕ, zero, suc, _+_, _≤_, _<_}
 use native.Mathlib.Nat.{not-suc-le-zero, le-of-suc-le-suc, eq-or-lt-of-le}
 use native.Mathlib.Numerals.{add-one}
 use native.Mathlib.Omega.{arith}
@@ -71,6 +71,16 @@ some-none (suc n) test f = rw (f n (omega arith)) (some-none n test (λ k h. f k
 pub every-broken : (n : ℕ) (test : ℕ → Bool) (k : ℕ) → k < n → test k ≡ false → everyBelow n test ≡ false
 every-broken n test k h e = by-test (everyBelow n test) (λ q. absurd (true≢false (sym (every-at n test q k h) ∙ e))) (λ q. q)
 
+-- fewer numbers pass where more do; and a flag that says as much as the test of each is that test
+pub every-fewer : (m n : ℕ) (test : ℕ → Bool) → m ≤ n → everyBelow n test ≡ true → everyBelow m test ≡ true
+every-fewer m n test h e = every-shown m test (λ k l. every-at n test e k (omega arith))
+
+pub every-is : (a : Bool) (n : ℕ) (test : ℕ → Bool) → (a ≡ true → (k : ℕ) → k < n → test k ≡ true) → (everyBelow n test ≡ true → a ≡ true) → a ≡ everyBelow n test
+every-is a n test f g =
+    by-test a
+    (λ q. q ∙ sym (every-shown n test (f q)))
+    (λ q. by-test (everyBelow n test) (λ t. absurd (true≢false (sym (g t) ∙ q))) (λ t. q ∙ sym t))
+
 -- one number more: what a loop that goes on has
 pub every-more : (n : ℕ) (test : ℕ → Bool) → everyBelow (n + 1) test ≡ both (test n) (everyBelow n test)
 unfolding everyBelow
@@ -87,6 +97,25 @@ every-next-not n test e = rw (add-one, e)
 pub every-start : (test : ℕ → Bool) → everyBelow 0 test ≡ true
 unfolding everyBelow
 every-start test = refl
+
+-- tests in another order
+pub both-assoc : (a b c : Bool) → both (both a b) c ≡ both a (both b c)
+both-assoc true b c = refl
+both-assoc false b c = refl
+
+pub both-last : (a : Bool) → both a true ≡ a
+both-last true = refl
+both-last false = refl
+
+pub both-swap : (a b c d : Bool) → both (both a b) (both c d) ≡ both (both a c) (both b d)
+both-swap true b c d = both-middle b c d
+  where
+    both-middle : (b c d : Bool) → both b (both c d) ≡ both c (both b d)
+    both-middle true true d = refl
+    both-middle true false d = refl
+    both-middle false true d = refl
+    both-middle false false d = refl
+both-swap false b c d = refl
 
 -- one test after another: the first fails, or the others decide
 pub both-stop : {a : Bool} (b : Bool) → a ≡ false → both a b ≡ false

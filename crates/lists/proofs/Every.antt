@@ -1,13 +1,13 @@
 -- What a test of each member of a list, or of any two, says, and how a loop goes through it. Assumes nothing.
-use mathlib.Core.Path.{_≡_, refl, sym}
+use mathlib.Core.Path.{_≡_, refl, sym, ap, ap₂, _∙_}
 use mathlib.Core.Bool.{Bool, true, false}
-use mathlib.Core.List.{List, [], _∷_}
+use mathlib.Core.List.{List, [], _∷_, _++_}
 use Prim.Native.Nat.{ℕ, zero, suc, _<_}
 use native.Mathlib.Omega.{arith}
 use lib.ListN.{length, getD}
 use Rattle.lists.specs.Below.{both}
-use Rattle.lists.proofs.Below.{both-left, both-right, both-true, true≢false}
-use Rattle.lists.specs.Every.{every, pairwise}
+use Rattle.lists.proofs.Below.{both-left, both-right, both-true, both-assoc, both-swap, true≢false}
+use Rattle.lists.specs.Every.{every, pairwise, across}
 
 -- the parts of a test that holds
 pub all-three : (a b c : Bool) → both a (both b c) ≡ true → (a ≡ true) × (b ≡ true) × (c ≡ true)
@@ -86,3 +86,25 @@ pair-all test (a ∷ s) d f =
     both-true (every (test a) s) (pairwise test s)
     (every-all (test a) s d (λ k h. f 0 (suc k) (omega arith) (omega arith)))
     (pair-all test s d (λ j k l h. f (suc j) (suc k) (omega arith) (omega arith)))
+
+-- one list after another: each of both, any two of both, any of one with any of another
+pub every-append : {A : Type 0} (test : A → Bool) (s t : List A) → every test (s ++ t) ≡ both (every test s) (every test t)
+unfolding every
+every-append test [] t = refl
+every-append test (a ∷ s) t = ap (both (test a)) (every-append test s t) ∙ sym (both-assoc (test a) (every test s) (every test t))
+
+pub across-append : {A : Type 0} (test : A → A → Bool) (s t u : List A) → across test s (t ++ u) ≡ both (across test s t) (across test s u)
+unfolding across every
+across-append test [] t u = refl
+across-append test (a ∷ s) t u =
+    ap₂ both (every-append (test a) t u) (across-append test s t u)
+    ∙ both-swap (every (test a) t) (every (test a) u) (across test s t) (across test s u)
+
+pub pair-append : {A : Type 0} (test : A → A → Bool) (s t : List A)
+    → pairwise test (s ++ t) ≡ both (pairwise test s) (both (across test s t) (pairwise test t))
+unfolding across every pairwise
+pair-append test [] t = refl
+pair-append test (a ∷ s) t =
+    ap₂ both (every-append (test a) s t) (pair-append test s t)
+    ∙ both-swap (every (test a) s) (every (test a) t) (pairwise test s) (both (across test s t) (pairwise test t))
+    ∙ ap (both (both (every (test a) s) (pairwise test s))) (sym (both-assoc (every (test a) t) (across test s t) (pairwise test t)))

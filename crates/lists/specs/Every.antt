@@ -12,3 +12,7 @@ every test (a ∷ s) = both (test a) (every test s)
 unfoldable pub pairwise {ℓ} : {A : Type ℓ} → (A → A → Bool) → List A → Bool
 pairwise test [] = true
 pairwise test (a ∷ s) = both (every (test a) s) (pairwise test s)
+
+-- a test holds of any member of one list and any of another
+unfoldable pub across {ℓ} : {A : Type ℓ} → (A → A → Bool) → List A → List A → Bool
+across test s t = every (λ a. every (test a) t) s

@@ -1,34 +1,30 @@
--- Laws of a row's fields: by places and by the plain row they are the same, and the code's cell is the cell. Assumes nothing.
+-- Laws of a row's fields: what a property names of a row, by its places and of the plain row, and the code's cell is the cell.
+-- Assumes nothing.
 use mathlib.Core.Path.{_≡_, refl, sym, ap, subst, _∙_}
+use mathlib.Core.Bool.{true, false}
 use mathlib.Core.List.{List, [], _++_, append-assoc}
-use Prim.Native.Nat.{ℕ, _+_, _-_, _*_, _^_, _≤_, _<_}
+use Prim.Native.Nat.{ℕ, _-_, _*_, _^_, _≤_, _<_}
 use native.Mathlib.Omega.{arith}
-use borrow.Author.Tests.{eqb-false, eq-eqb, ne-eqb}
-use lib.Dec.{eqb}
+use borrow.Author.Tests.{eqb-true, eqb-false, leb-true, eq-eqb, ne-eqb}
+use lib.Dec.{eqb, leb}
 use lib.ListN.{replicate}
 use Rattle.lists.specs.Below.{pick, both}
 use Rattle.wire.specs.Word.{le, halves}
-use Rattle.lists.proofs.Below.{by-test}
-use Rattle.catalogue.specs.Limits.{sizeMost}
-use Rattle.catalogue.specs.CataloguePlaces.{unitsPart, textOf, rowOf, rowAt, rowSeen, withRow, noFields, fieldsSeen}
+use Rattle.lists.proofs.Below.{by-test, true≢false, both-left, both-right}
+use Rattle.catalogue.specs.Plain.{Row}
+use Rattle.catalogue.specs.CataloguePlaces.{unitsPart, textOf, rowOf}
 use Rattle.catalogue.specs.declared.Text.{Text}
 use Rattle.catalogue.specs.declared.Fields.{Fields}
-use Rattle.catalogue.specs.declared.RowAt.{RowAt}
-use Rattle.catalogue.specs.declared.RowAt.the-variants.{RowTo, NoRow}
-use Rattle.catalogue.proofs.RowLaws.{row-ready}
-use Rattle.wire.specs.Property.{isNumber, variantType, variantSize, numberType, numberSize, cellSize}
+use Rattle.wire.specs.Property.{isNumber, ofNumbers, ofTexts, variantType, variantSize, numberType, numberSize, cellSize}
 use Rattle.bindings.specs.Fit.{isUsed}
 use Rattle.bindings.specs.declared.Column.{Column}
 use Rattle.wire.specs.Laid.{lay, lays, Laid}
-use Rattle.wire.proofs.Lays.{lays-join}
-use Rattle.page.specs.Field.{Field, number, textField, byProperty, fieldOf}
-use Rattle.page.specs.FieldPlaces.{textFieldAt, fieldAt, fieldSeen, fieldBy, blockAt, lengthAt, cellBytes}
-use Rattle.page.specs.Cell.{variant, variantOf, kindOf, contentOf, cellOf, textType, offsetWidth, laidIf, blockSpan, blockSize, statusOf, lengthOf, textSize}
-use Rattle.page.specs.Numbered.{fieldNumbered}
-use Rattle.page.specs.FieldReady.{FieldReady, SizeReady, SizesReady, SpansReady}
+use Rattle.page.specs.Field.{Field, number, text, absent, textField, byProperty, fieldOf}
+use Rattle.page.specs.CellPlaces.{cellBytes}
+use Rattle.page.specs.Cell.{variant, variantOf, kindOf, contentOf, cellOf, textType, offsetWidth, laidIf, blockSize}
+use Rattle.page.specs.Reads.{Held}
+use Rattle.page.specs.FieldReady.{SpansReady}
 use Rattle.catalogue.specs.CatalogueReady.{FieldsReady, UnitsReady}
-use Rattle.page.specs.declared.FieldAt.{FieldAt}
-use Rattle.page.specs.declared.FieldAt.the-variants.{NumberIs, TextIs, Absent}
 use Rattle.page.proofs.Little.{le-more}
 use Rattle.page.proofs.Units.{units-double}
 
@@ -40,60 +36,68 @@ by-property P property k l d a n pk pl pd pa pn =
     (by-test (eqb property 4) (λ t. rw t pd) (λ t. rw t
     (by-test (eqb property 5) (λ u. rw u pa) (λ u. rw u pn)))))))
 
-text-seen : (s : List ℕ) (t : Text) → fieldSeen s (textFieldAt t) ≡ textField (textOf s t)
-text-seen s t = by-test (eqb (t .size) 0) (λ q. rw q) (λ q. rw q)
-
--- the field by places is the plain row's
-pub field-seen : (s : List ℕ) (property : ℕ) (f : Fields) → fieldSeen s (fieldAt property f) ≡ fieldOf property (rowOf s f)
-field-seen s property f =
+-- a property of numbers names one of the three
+pub field-number : (property : ℕ) (r : Row) → isNumber property ≡ true
+    → fieldOf property r ≡ number (ofNumbers property (r .key) (r .language) (r .default))
+field-number property r h =
     by-test (eqb property 2) (λ q. rw q) (λ q. rw q
-    (by-test (eqb property 3) (λ r. rw r) (λ r. rw r
-    (by-test (eqb property 4) (λ t. rw t) (λ t. rw t
-    (by-test (eqb property 5) (λ u. rw u (text-seen s (f .label))) (λ u. rw u (text-seen s (f .note)))))))))
+    (by-test (eqb property 3) (λ u. rw u) (λ u. rw u
+    (by-test (eqb property 4) (λ v. rw v) (λ v. absurd (none q u v))))))
+  where
+    none : eqb property 2 ≡ false → eqb property 3 ≡ false → eqb property 4 ≡ false → ⊥
+    none q u v =
+        omega (
+          arith,
+          eqb-false property 2 q,
+          eqb-false property 3 u,
+          eqb-false property 4 v,
+          leb-true 2 property (both-left (leb 2 property) (leb property 4) h),
+          leb-true property 4 (both-right (leb 2 property) (leb property 4) h),
+        )
 
-text-stands : (s : List ℕ) (t : Text) → UnitsReady s t → FieldReady s (textFieldAt t)
-text-stands s t h = by-test (eqb (t .size) 0) (λ q. rw q tt) (λ q. rw q (h, omega (arith, eqb-false (t .size) 0 q)))
+-- any other names one of the two texts
+pub field-text : (s : List ℕ) (property : ℕ) (f : Fields) → isNumber property ≡ false
+    → fieldOf property (rowOf s f) ≡ textField (textOf s (ofTexts property (f .label) (f .note)))
+field-text s property f h =
+    by-test (eqb property 2) (λ q. absurd (no 2 refl (eqb-true property 2 q))) (λ q. rw q
+    (by-test (eqb property 3) (λ u. absurd (no 3 refl (eqb-true property 3 u))) (λ u. rw u
+    (by-test (eqb property 4) (λ v. absurd (no 4 refl (eqb-true property 4 v))) (λ v. rw v
+    (by-test (eqb property 5) (λ w. rw w) (λ w. rw w)))))))
+  where
+    no : (n : ℕ) → isNumber n ≡ true → property ≡ n → ⊥
+    no n k e = true≢false (sym k ∙ ap isNumber (sym e) ∙ h)
 
-pub field-stands : (s : List ℕ) (property : ℕ) (f : Fields) → FieldsReady s f → FieldReady s (fieldAt property f)
-field-stands s property f h =
-    by-property (FieldReady s) property (NumberIs (f .key)) (NumberIs (f .language)) (NumberIs (f .default)) (textFieldAt (f .label)) (textFieldAt (f .note))
+pub text-stands : (s : List ℕ) (property : ℕ) (f : Fields) → FieldsReady s f → UnitsReady s (ofTexts property (f .label) (f .note))
+text-stands s property f h = by-test (eqb property 5) (λ q. rw q (h .label)) (λ q. rw q (h .note))
+
+-- a text by the size that the catalogue has
+pub text-absent : (s : List ℕ) (t : Text) → t .size ≡ 0 → textField (textOf s t) ≡ absent
+text-absent s t e = rw (eq-eqb (t .size) 0 e)
+
+pub text-present : (s : List ℕ) (t : Text) → (t .size ≡ 0 → ⊥) → textField (textOf s t) ≡ text (halves (unitsPart s t))
+text-present s t n = rw (ne-eqb (t .size) 0 n)
+
+pub text-size : (s : List ℕ) (t : Text) → UnitsReady s t → blockSize (textField (textOf s t)) ≡ 2 * t .size
+text-size s t h =
+    by-test (eqb (t .size) 0)
+    (λ q. rw q (omega (arith, eqb-true (t .size) 0 q)))
+    (λ q. rw q (units-double s t h (omega (arith, eqb-false (t .size) 0 q))))
+
+-- cells and lengths have room for what a row has
+text-held : (s : List ℕ) (t : Text) → UnitsReady s t → Held (textField (textOf s t))
+text-held s t h =
+    by-test (eqb (t .size) 0)
+    (λ q. rw q tt)
+    (λ q. rw q (omega (arith, units-double s t h (omega (arith, eqb-false (t .size) 0 q)), h .small)))
+
+pub field-held : (s : List ℕ) (property : ℕ) (f : Fields) → FieldsReady s f → Held (fieldOf property (rowOf s f))
+field-held s property f h =
+    by-property Held property (number (f .key)) (number (f .language)) (number (f .default)) (textField (textOf s (f .label))) (textField (textOf s (f .note)))
     (omega (arith, h .key))
     (omega (arith, h .language))
     (omega (arith, h .default))
-    (text-stands s (f .label) (h .label))
-    (text-stands s (f .note) (h .note))
-
-text-small : (t : Text) → t .size ≤ sizeMost → SizeReady (textFieldAt t)
-text-small t h = by-test (eqb (t .size) 0) (λ q. rw q tt) (λ q. rw q h)
-
-pub field-small : (property : ℕ) (f : Fields) → SizesReady f → SizeReady (fieldAt property f)
-field-small property f h =
-    by-property SizeReady property (NumberIs (f .key)) (NumberIs (f .language)) (NumberIs (f .default)) (textFieldAt (f .label)) (textFieldAt (f .note))
-    tt tt tt
-    (text-small (f .label) (h .0))
-    (text-small (f .note) (h .1))
-
--- the fields found at a place stand in the bytes, and are those of the row seen there
-pub seen-stand : (s : List ℕ) (at : ℕ) → FieldsReady s (fieldsSeen s at)
-seen-stand s at = go (rowAt s at) refl
-  where
-    empty : UnitsReady s (record { size = 0; start = 0 })
-    empty = record { small = omega arith; inside = omega arith }
-
-    go : (r : RowAt) → rowAt s at ≡ r → FieldsReady s (withRow r noFields (λ f next. f))
-    go NoRow e = record { key = omega arith; language = omega arith; default = omega arith; label = empty; note = empty }
-    go (RowTo f next) e = row-ready s at f next e
-
-pub seen-row : (s : List ℕ) (at : ℕ) → rowOf s (fieldsSeen s at) ≡ rowSeen s at
-seen-row s at = go (rowAt s at)
-  where
-    go : (r : RowAt) → rowOf s (withRow r noFields (λ f next. f))
-        ≡ withRow r (rowOf s noFields) (λ f next. rowOf s f)
-    go NoRow = refl
-    go (RowTo f next) = refl
-
-pub stand-small : (s : List ℕ) (f : Fields) → FieldsReady s f → SizesReady f
-stand-small s f h = (h .label .small, h .note .small)
+    (text-held s (f .label) (h .label))
+    (text-held s (f .note) (h .note))
 
 -- a cell by its type and number is a cell of two bytes of type and so many of number
 variant-same : (type width v : ℕ) → type < 256 ^ 2 → v < 256 ^ width → width ≤ 8 → le 8 type ++ le 8 v ≡ variant type width v
@@ -104,20 +108,16 @@ variant-same type width v t h w =
     number : le 8 v ≡ le width v ++ replicate (8 - width) 0
     number = ap (λ (n : ℕ). le n v) (omega arith) ∙ le-more width (8 - width) v h
 
-pub cell-same : (s : List ℕ) (property type offset : ℕ) (f : FieldAt) → FieldReady s f → offset < 256 ^ offsetWidth
-    → cellBytes property type (kindOf property (fieldSeen s f)) (contentOf offset (fieldSeen s f)) ≡ cellOf property type offset (fieldSeen s f)
+pub cell-same : (property type offset : ℕ) (f : Field) → Held f → offset < 256 ^ offsetWidth
+    → cellBytes property type (kindOf property f) (contentOf offset f) ≡ cellOf property type offset f
 unfolding le
-cell-same s property type offset f h o =
+cell-same property type offset f h o =
     by-test (eqb type variantType) (λ q. rw q (go f h)) (λ q. rw q)
   where
-    go : (f : FieldAt) → FieldReady s f → le 8 (kindOf property (fieldSeen s f)) ++ le 8 (contentOf offset (fieldSeen s f)) ≡ variantOf property offset (fieldSeen s f)
-    go (NumberIs v) h = variant-same (numberType property) 4 v (omega arith) (omega arith) (omega arith)
-    go (TextIs t) h = variant-same textType offsetWidth offset (omega arith) o (omega arith)
-    go Absent h = refl
-
--- spans laid in four groups
-pub lays-four : (t : List ℕ) (a b d e : List Laid) → lays (lays (lays (lays t a) b) d) e ≡ lays t (a ++ (b ++ (d ++ e)))
-lays-four t a b d e = sym (lays-join t a (b ++ (d ++ e)) ∙ lays-join (lays t a) b (d ++ e) ∙ lays-join (lays (lays t a) b) d e)
+    go : (f : Field) → Held f → le 8 (kindOf property f) ++ le 8 (contentOf offset f) ≡ variantOf property offset f
+    go (number v) h = variant-same (numberType property) 4 v (omega arith) (omega arith) (omega arith)
+    go (text units) h = variant-same textType offsetWidth offset (omega arith) o (omega arith)
+    go absent h = refl
 
 -- a column lies in a list of the same length too
 pub still-in : (m n row : ℕ) (c : Column) → m ≡ n → SpansReady m row c → SpansReady n row c
@@ -131,49 +131,6 @@ laid-unused t flag s n = rw (ne-eqb flag 1 n)
 pub laid-used : (t u : List ℕ) (flag place : ℕ) (bytes : List ℕ) → flag ≡ 1 → u ≡ lay t place bytes → u ≡ lays t (laidIf flag place bytes)
 unfolding lays
 laid-used t u flag place bytes e h = rw (eq-eqb flag 1 e) h
-
--- a block where the value is used: of a field that has none, and of a text
-pub block-laid : (t u : List ℕ) (flag place : ℕ) (f : Field) → flag ≡ 1 → u ≡ lays t (blockSpan place f) → u ≡ lays t (pick (isUsed flag) (blockSpan place f) [])
-block-laid t u flag place f e h = rw (eq-eqb flag 1 e) h
-
--- the size and the length that the code counts are those of the field
-pub block-at : (s : List ℕ) (f : FieldAt) → FieldReady s f → blockAt f ≡ blockSize (fieldSeen s f)
-block-at s (NumberIs v) h = refl
-block-at s (TextIs t) h = sym (units-double s t (h .0) (h .1))
-block-at s Absent h = refl
-
-pub length-at : (s : List ℕ) (property : ℕ) (f : FieldAt) → FieldReady s f → lengthAt property f ≡ lengthOf property (fieldSeen s f)
-length-at s property (NumberIs v) h = refl
-length-at s property (TextIs t) h = sym (units-double s t (h .0) (h .1))
-length-at s property Absent h = refl
-
--- the number of an answer is the status byte
-pub status-numbered : (s : List ℕ) (f : FieldAt) → fieldNumbered f .number ≡ statusOf (fieldSeen s f)
-status-numbered s (NumberIs v) = refl
-status-numbered s (TextIs t) = refl
-status-numbered s Absent = refl
-
--- the number and the values of an answer are the status and the field of the row's that the property names
-value-seen : (s : List ℕ) (f : FieldAt) → fieldBy s (fieldNumbered f .values) ≡ fieldSeen s f
-value-seen s (NumberIs v) = refl
-value-seen s (TextIs t) = refl
-value-seen s Absent = refl
-
-pub field-numbered : (s : List ℕ) (property : ℕ) (f : Fields)
-    → (fieldNumbered (fieldAt property f) .number ≡ statusOf (fieldOf property (rowOf s f)))
-    × (fieldBy s (fieldNumbered (fieldAt property f) .values) ≡ fieldOf property (rowOf s f))
-field-numbered s property f = (
-  status-numbered s (fieldAt property f) ∙ ap statusOf (field-seen s property f),
-  value-seen s (fieldAt property f) ∙ field-seen s property f,
-)
-
--- what a text's block wants of the reply, where the block is to be laid
-pub block-fits : (n place used : ℕ) (s : List ℕ) (f : FieldAt) (t : Text) → used ≡ 1 → f ≡ TextIs t → FieldReady s f
-    → place + pick (isUsed used) (blockSize (fieldSeen s f)) 0 ≤ n → UnitsReady s t × (0 < t .size) × (place + 2 * t .size ≤ n)
-block-fits n place used s f t u e h fits =
-    let k : FieldReady s (TextIs t) = rw e at h in
-    let l : place + textSize (halves (unitsPart s t)) ≤ n = rw (eq-eqb used 1 u, e) at fits in
-    (k .0, k .1, omega (arith, units-double s t (k .0) (k .1)))
 
 -- the size of a cell that a column with a type has
 pub variant-size : (property type : ℕ) → type ≡ variantType → cellSize property type ≡ variantSize

@@ -14,12 +14,8 @@ use Rattle.lists.specs.Each.{Each}
 use Rattle.wire.specs.Laid.{fourWords}
 use Rattle.lists.specs.Parts.{part}
 use Rattle.page.specs.Field.{fieldOf}
-use Rattle.page.specs.FieldPlaces.{fieldAt, fieldSeen}
-use Rattle.page.specs.FieldReady.{FieldReady}
-use Rattle.page.specs.declared.FieldAt.{FieldAt}
-use Rattle.page.specs.declared.FieldAt.the-variants.{NumberIs, TextIs, Absent}
-use Rattle.page.proofs.Fields.{field-seen, field-stands, seen-stand, seen-row}
-use Rattle.page.proofs.Units.{units-double}
+use Rattle.catalogue.proofs.RowLaws.{seen-stand, seen-row}
+use Rattle.page.proofs.Fields.{field-held}
 use Rattle.page.specs.Rows.{allBlocks}
 use Rattle.page.specs.Page.{page}
 use Rattle.wire.specs.Header.{getRowsMsg}
@@ -27,15 +23,8 @@ use Rattle.page.specs.Reads.{Held, HeadReads}
 use Rattle.page.proofs.Inner.{first-word, other-words}
 use Rattle.page.proofs.Reply.{page-reads}
 
-held-at : (s : List ℕ) (f : FieldAt) → FieldReady s f → Held (fieldSeen s f)
-held-at s (NumberIs v) h = omega arith
-held-at s (TextIs t) h = omega (arith, units-double s t (h .0) (h .1), h .0 .small)
-held-at s Absent h = tt
-
 pub held-seen : (s : List ℕ) (at property : ℕ) → Held (fieldOf property (rowSeen s at))
-held-seen s at property =
-    rw (← (seen-row s at), ← (field-seen s property (fieldsSeen s at)))
-    (held-at s (fieldAt property (fieldsSeen s at)) (field-stands s property (fieldsSeen s at) (seen-stand s at)))
+held-seen s at property = rw (← (seen-row s at)) (field-held s property (fieldsSeen s at) (seen-stand s at))
 
 -- four words in a row
 four-read : (u : List ℕ) (n at a b c d : ℕ) → a < 256 ^ 4 → b < 256 ^ 4 → c < 256 ^ 4 → d < 256 ^ 4 → part u at n ≡ fourWords a b c d

@@ -4,6 +4,7 @@ pub mod Fields
 pub mod Column
 pub mod RowSteps
 pub mod Found
+pub mod Counted
 pub mod FillSteps
 pub mod RowsBound
 pub mod Parts

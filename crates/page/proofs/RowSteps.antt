@@ -4,7 +4,6 @@ use mathlib.Core.List.{List}
 use Prim.Native.Nat.{ℕ, _+_, _-_, _<_}
 use Rattle.catalogue.specs.Plain.{Row}
 use Rattle.bindings.specs.Column.{columnAt, columnsFrom}
-use Rattle.bindings.specs.declared.Column.{Column}
 use Rattle.bindings.proofs.Columns.{from-more, from-none}
 use Rattle.wire.specs.Laid.{lays}
 use Rattle.wire.proofs.Lays.{lays-join}
@@ -37,7 +36,7 @@ module _ (left k : ℕ) (words : List ℕ) (r : Row) where
   spans-none t base row top e = rw (from-none left k words e)
 
 -- one column of a row laid
-pub row-step : (left k : ℕ) (words : List ℕ) (r : Row) (t u : List ℕ) (base row top place : ℕ) (column : Column) → 0 < left
-    → column ≡ columnAt words k → place ≡ top - blockRoom column r → u ≡ lays t (columnSpans base row place column r)
+pub row-step : (left k : ℕ) (words : List ℕ) (r : Row) (t u : List ℕ) (base row top place : ℕ) → 0 < left
+    → place ≡ top - blockRoom (columnAt words k) r → u ≡ lays t (columnSpans base row place (columnAt words k) r)
     → lays u (rowSpans base row place (columnsFrom (left - 1) (k + 1) words) r) ≡ lays t (rowSpans base row top (columnsFrom left k words) r)
-row-step left k words r t u base row top place column h ec ep eu = rw (eu, ep, ec) (sym (spans-more left k words r t base row top h))
+row-step left k words r t u base row top place h ep eu = rw (eu, ep) (sym (spans-more left k words r t base row top h))

@@ -43,12 +43,12 @@ module _ (s : List ℕ) (x : Text) (stands : UnitsReady s x) where
   units-double h = omega (arith, halves-length (unitsPart s x), units-length)
 
   -- the units copied, and a zero unit laid after them
-  pub text-laid : (t : List ℕ) (place : ℕ) {units copied laid : List ℕ} → Bytes s → place + length (unitsPart s x) ≤ length t → units ≡ unitsPart s x
-      → copied ≡ lay t place units → laid ≡ lay copied (place + length units) (le 2 0) → laid ≡ lay t place (blockOf (halves (unitsPart s x)))
+  pub text-laid : (t : List ℕ) (place end : ℕ) {units copied laid : List ℕ} → Bytes s → end ≡ place + length (unitsPart s x) → end ≤ length t → units ≡ unitsPart s x
+      → copied ≡ lay t place units → laid ≡ lay copied end (le 2 0) → laid ≡ lay t place (blockOf (halves (unitsPart s x)))
   unfolding le
-  text-laid t place bytes inside e₁ e₂ e₃ =
+  text-laid t place end bytes ends inside e₁ e₂ e₃ =
       e₃
-      ∙ rw (e₂, e₁)
-      (lay-join t place (unitsPart s x) (0 ∷ 0 ∷ []) inside
+      ∙ rw (e₂, e₁, ends)
+      (lay-join t place (unitsPart s x) (0 ∷ 0 ∷ []) (omega (arith, ends, inside))
       ∙ ap (λ (u : List ℕ). lay t place (u ++ (0 ∷ 0 ∷ [])))
       (sym (written-halves (unitsPart s x) (x .size - 1) units-length (bytes-part (unitBytesOf (x .size)) (x .start) s bytes))))

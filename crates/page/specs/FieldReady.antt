@@ -9,19 +9,7 @@ use Rattle.catalogue.specs.declared.Fields.{Fields}
 use Rattle.wire.specs.Property.{cellSize, statusSize, lengthSize}
 use Rattle.bindings.specs.declared.Column.{Column}
 use Rattle.page.specs.Cell.{offsetWidth, blockRoom}
-use Rattle.page.specs.declared.FieldAt.{FieldAt}
-use Rattle.page.specs.declared.FieldAt.the-variants.{NumberIs, TextIs, Absent}
-use Rattle.catalogue.specs.CatalogueReady.{FieldsReady, UnitsReady}
-
--- something holds whatever the bytes of the catalogue are
-abbrev pub InAny : (List ℕ → Type 0) → Type 0
-InAny P = (s : List ℕ) → P s
-
--- one field: a number of four bytes, or a text with at least its own terminator
-abbrev pub FieldReady : List ℕ → FieldAt → Type 0
-FieldReady s (NumberIs v) = v < 2 ^ 32
-FieldReady s (TextIs t) = UnitsReady s t × (0 < t .size)
-FieldReady s Absent = Unit
+use Rattle.catalogue.specs.CatalogueReady.{FieldsReady}
 
 -- the used spans of a column, in the row at `row`, lie in the first n bytes
 pub record SpansReady (n row : ℕ) (c : Column) : Type 0 where
@@ -31,11 +19,6 @@ pub record SpansReady (n row : ℕ) (c : Column) : Type 0 where
   pub length : c .length .used ≡ 1 → row + c .length .offset + lengthSize ≤ n
 
 -- sizes that the code can double, whatever the catalogue
-abbrev pub SizeReady : FieldAt → Type 0
-SizeReady (NumberIs v) = Unit
-SizeReady (TextIs t) = t .size ≤ sizeMost
-SizeReady Absent = Unit
-
 abbrev pub SizesReady : Fields → Type 0
 SizesReady f = (f .label .size ≤ sizeMost) × (f .note .size ≤ sizeMost)
 

@@ -4,10 +4,9 @@ pub mod Rows
 pub mod Page
 pub mod Reads
 pub mod Examples
-pub mod FieldPlaces
+pub mod CellPlaces
 pub mod RowPlaces
 pub mod FieldReady
 pub mod RowReady
 pub mod PageReady
 pub mod PageTold
-pub mod Numbered

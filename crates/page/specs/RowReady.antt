@@ -25,9 +25,6 @@ abbrev pub NumbersReady : List ℕ → List ℕ → List ℕ → Type 0
 NumbersReady s places numbers = (i : ℕ) → i < length numbers → RowAtReady s (getD places (getD numbers i 0) 0)
 
 -- the blocks of a row take at most this: five columns, each with a text of at most 2,048 units and its zero unit
-abbrev pub blockMost : ℕ
-blockMost = 4098
-
 abbrev pub blocksMost : ℕ
 blocksMost = 20490
 

@@ -1,13 +1,5 @@
 // The page of a rows reply: what a column of a row has to send, how many rows fit, and the bytes of the whole (01,
 // "Rows", from "The reply is B bytes" on). Definitions, laws, types and constants; no function.
-use catalogue::Text;
-
-// What a row has for a property.
-pub enum FieldAt {
-    NumberIs(u64),
-    TextIs(Text),
-    Absent,
-}
 
 // What a reply is laid by: how many columns are bound in rows of which width, the reply's size, the place of its first row, the
 // client's base, and how many rows are asked for.
@@ -18,6 +10,12 @@ pub struct Sheet {
     pub from: usize,
     pub base: u64,
     pub asked: usize,
+}
+
+// How many of a row's columns send its label, and how many its note.
+pub struct Texts {
+    pub labels: usize,
+    pub notes: usize,
 }
 
 // The type that a cell says of a text.

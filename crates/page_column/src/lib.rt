@@ -5,47 +5,44 @@ ghost use Prim.Native.Nat.{_+_, _*_, _≤_, _<_, _-_};
 ghost use lib.ListN.{length};
 ghost use Rattle.lists.specs.Below.{pick};
 ghost use Rattle.wire.specs.Word.{le, halves};
-ghost use Rattle.catalogue.specs.CataloguePlaces.{unitsPart, rowOf};
+ghost use Rattle.catalogue.specs.CataloguePlaces.{unitsPart, textOf, rowOf, fieldsOf};
 ghost use Rattle.wire.specs.Property.{lengthSize};
+ghost use Rattle.bindings.specs.Column.{roomWords, columnsMost, columnAt};
 ghost use Rattle.bindings.specs.Fit.{isUsed};
 ghost use Rattle.wire.specs.Laid.{lay, lays};
-ghost use Rattle.page.specs.FieldPlaces.{fieldSeen, cellBytes};
-ghost use Rattle.page.specs.Cell.{blockOf, blockSize, blockSpan, laidIf};
+ghost use Rattle.page.specs.Field.{textField};
+ghost use Rattle.page.specs.CellPlaces.{cellBytes, spansSent, roomAt};
+ghost use Rattle.page.specs.Cell.{blockOf, blockSpan, laidIf};
 ghost use Rattle.page.specs.PageTold.{ColumnLaid};
-ghost use Rattle.page.specs.FieldReady.{FieldReady, SpansReady, ColumnReady};
+ghost use Rattle.page.specs.FieldReady.{SpansReady, ColumnReady};
 ghost use Rattle.catalogue.specs.CatalogueReady.{UnitsReady};
-use bindings::Column;
-use catalogue::Fields;
 use catalogue::Text;
-use page::FieldAt;
 
-// A text's block: its units and one zero unit.
-fn lay_text(reply: &mut [u8], catalogue: &[u8], text: Text, place: usize)
-    requires { ⌜ UnitsReady (now catalogue) text × (0 < text .size) × (place + 2 * text .size ≤ length (now reply)) ⌝ }
+// A text's block, from a place up to another: its units and one zero unit.
+fn lay_text(reply: &mut [u8], catalogue: &[u8], text: Text, place: usize, top: usize)
+    requires { ⌜ UnitsReady (now catalogue) text × (0 < text .size) × (top ≡ place + 2 * text .size)
+        × (top ≤ length (now reply)) ⌝ }
     ensures { λ _. ⌜ now (reply .exit) ≡ lay (now (reply .entry)) place
         (blockOf (halves (unitsPart (now (catalogue .entry)) text))) ⌝ }
 {
     let units = catalogue_row::units(catalogue, text);
     wire_lay::lay_bytes(reply, place, units);
-    let end = place + units.len();
-    wire_lay_word::lay_half(reply, end, 0);
+    wire_lay_word::lay_half(reply, top - 2, 0);
 }
 
-// A field's block, where the value is used and there is one.
-fn lay_block(reply: &mut [u8], catalogue: &[u8], used: u32, field: FieldAt, place: usize)
-    requires { ⌜ FieldReady (now catalogue) field
-        × (place + pick (isUsed used) (blockSize (fieldSeen (now catalogue) field)) 0 ≤ length (now reply)) ⌝ }
-    ensures { λ _. ⌜ now (reply .exit) ≡ lays (now (reply .entry))
-        (pick (isUsed used) (blockSpan place (fieldSeen (now (catalogue .entry)) field)) []) ⌝ }
+// A text's block ending at `top`, where the value is used: where it begins is given back.
+fn lay_block(reply: &mut [u8], catalogue: &[u8], used: u32, text: Text, top: usize) -> usize
+    requires { ⌜ UnitsReady (now catalogue) text × (0 < text .size) × (roomAt used text ≤ top)
+        × (top ≤ length (now reply)) ⌝ }
+    ensures { λ r. ⌜ (r ≡ top - roomAt used text) × (now (reply .exit) ≡ lays (now (reply .entry))
+        (pick (isUsed used) (blockSpan r (textField (textOf (now (catalogue .entry)) text))) [])) ⌝ }
 {
     if used != 1 {
-        return;
+        return top;
     }
-    match field {
-        FieldAt::NumberIs(_) => {}
-        FieldAt::TextIs(text) => lay_text(reply, catalogue, text, place),
-        FieldAt::Absent => {}
-    }
+    let place = top - 2 * text.size;
+    lay_text(reply, catalogue, text, place, top);
+    place
 }
 
 // A cell of sixteen bytes: the type, six zeros, and the number in the first bytes of the other eight.
@@ -58,17 +55,20 @@ fn lay_variant(reply: &mut [u8], at: usize, kind: u64, number: u64)
 }
 
 // A column's cell, where its value is used.
-fn lay_value(reply: &mut [u8], column: Column, row: usize, kind: u64, number: u64)
-    requires { ⌜ SpansReady (length (now reply)) row column ⌝ }
+fn lay_value(reply: &mut [u8], records: &[u32], index: usize, row: usize, kind: u64, number: u64)
+    requires { ⌜ (length (now records) ≡ roomWords) × (index < columnsMost)
+        × SpansReady (length (now reply)) row (columnAt (now records) index) ⌝ }
     ensures { λ _. ⌜ now (reply .exit) ≡ lays (now (reply .entry))
-        (laidIf (column .value .used) (row + column .value .offset)
-        (cellBytes (column .property) (column .vtype) kind number)) ⌝ }
+        (laidIf (columnAt (now (records .entry)) index .value .used) (row + columnAt (now (records .entry)) index .value .offset)
+        (cellBytes (columnAt (now (records .entry)) index .property) (columnAt (now (records .entry)) index .vtype)
+        kind number)) ⌝ }
 {
-    if column.value.used != 1 {
+    let first = bindings::COLUMN_WORDS * index;
+    if records[first + bindings::VALUE_USED] != 1 {
         return;
     }
-    let at = row + (column.value.offset as usize);
-    if column.vtype == wire::VARIANT_TYPE {
+    let at = row + (records[first + bindings::VALUE_OFFSET] as usize);
+    if records[first + bindings::VTYPE] == wire::VARIANT_TYPE {
         lay_variant(reply, at, kind, number);
         return;
     }
@@ -76,62 +76,92 @@ fn lay_value(reply: &mut [u8], column: Column, row: usize, kind: u64, number: u6
 }
 
 // A column's status byte, where it is used.
-fn lay_status(reply: &mut [u8], column: Column, row: usize, status: u8)
-    requires { ⌜ SpansReady (length (now reply)) row column ⌝ }
+fn lay_status(reply: &mut [u8], records: &[u32], index: usize, row: usize, status: u8)
+    requires { ⌜ (length (now records) ≡ roomWords) × (index < columnsMost)
+        × SpansReady (length (now reply)) row (columnAt (now records) index) ⌝ }
     ensures { λ _. ⌜ now (reply .exit) ≡ lays (now (reply .entry))
-        (laidIf (column .status .used) (row + column .status .offset) (status ∷ [])) ⌝ }
+        (laidIf (columnAt (now (records .entry)) index .status .used)
+        (row + columnAt (now (records .entry)) index .status .offset) (status ∷ [])) ⌝ }
 {
-    if column.status.used != 1 {
+    let first = bindings::COLUMN_WORDS * index;
+    if records[first + bindings::STATUS_USED] != 1 {
         return;
     }
-    let at = row + (column.status.offset as usize);
+    let at = row + (records[first + bindings::STATUS_OFFSET] as usize);
     wire_lay::lay_byte(reply, at, status);
 }
 
 // A column's length, where it is used.
-fn lay_length(reply: &mut [u8], column: Column, row: usize, value: u64)
-    requires { ⌜ SpansReady (length (now reply)) row column ⌝ }
+fn lay_length(reply: &mut [u8], records: &[u32], index: usize, row: usize, value: u64)
+    requires { ⌜ (length (now records) ≡ roomWords) × (index < columnsMost)
+        × SpansReady (length (now reply)) row (columnAt (now records) index) ⌝ }
     ensures { λ _. ⌜ now (reply .exit) ≡ lays (now (reply .entry))
-        (laidIf (column .length .used) (row + column .length .offset) (le lengthSize value)) ⌝ }
+        (laidIf (columnAt (now (records .entry)) index .length .used)
+        (row + columnAt (now (records .entry)) index .length .offset) (le lengthSize value)) ⌝ }
 {
-    if column.length.used != 1 {
+    let first = bindings::COLUMN_WORDS * index;
+    if records[first + bindings::LENGTH_USED] != 1 {
         return;
     }
-    let at = row + (column.length.offset as usize);
+    let at = row + (records[first + bindings::LENGTH_OFFSET] as usize);
     wire_lay_word::lay_word(reply, at, value);
+}
+
+// What a column has in its row: the cell, the status byte and the length, each where it is used.
+fn lay_spans(
+    reply: &mut [u8],
+    records: &[u32],
+    index: usize,
+    row: usize,
+    kind: u64,
+    number: u64,
+    status: u8,
+    size: u64,
+)
+    requires { ⌜ (length (now records) ≡ roomWords) × (index < columnsMost)
+        × SpansReady (length (now reply)) row (columnAt (now records) index) ⌝ }
+    ensures { λ _. ⌜ now (reply .exit) ≡ lays (now (reply .entry))
+        (spansSent row (columnAt (now (records .entry)) index) kind number status size) ⌝ }
+{
+    lay_value(reply, records, index, row, kind, number);
+    lay_status(reply, records, index, row, status);
+    lay_length(reply, records, index, row, size);
 }
 
 // All of a column in the row at `row`, its block ending at `top`: the block's place is given back.
 pub fn lay_column(
     reply: &mut [u8],
     catalogue: &[u8],
-    fields: Fields,
-    column: Column,
+    fields: &[u64; catalogue::FIELD_WORDS],
+    records: &[u32],
+    index: usize,
     base: u64,
     row: usize,
     top: usize,
 ) -> usize
-    requires { ⌜ ColumnReady (length (now reply)) (now catalogue) fields column base row top ⌝ }
-    ensures { λ r. ⌜ ColumnLaid base row top column (rowOf (now (catalogue .entry)) fields) r
-        (now (reply .entry)) (now (reply .exit)) ⌝ }
+    requires { ⌜ (length (now records) ≡ roomWords) × (index < columnsMost) × ColumnReady (length (now reply)) (now catalogue)
+        (fieldsOf (now fields)) (columnAt (now records) index) base row top ⌝ }
+    ensures { λ r. ⌜ ColumnLaid base row top (columnAt (now (records .entry)) index)
+        (rowOf (now (catalogue .entry)) (fieldsOf (now (fields .entry)))) r (now (reply .entry)) (now (reply .exit)) ⌝ }
 {
-    let found = page_field::field(fields, column.property);
-    let place = top - page_field::room_of(column.value.used, found);
-    lay_block(reply, catalogue, column.value.used, found, place);
+    let first = bindings::COLUMN_WORDS * index;
+    let property = records[first];
+    if lists_test::within(wire::KEY, wire::DEFAULT, property) {
+        let kind = wire_property::number_type(property) as u64;
+        let number = catalogue_field::number_of(property, fields);
+        let size = wire_property::number_size(property) as u64;
+        lay_spans(reply, records, index, row, kind, number, 0, size);
+        return top;
+    }
+    let text = catalogue_field::text_of(property, fields);
+    if text.size == 0 {
+        lay_spans(reply, records, index, row, 0, 0, 2, 0);
+        return top;
+    }
+    let size = 2 * (text.size as u64);
+    let used = records[first + bindings::VALUE_USED];
+    let place = lay_block(reply, catalogue, used, text, top);
     let offset = base + (place as u64);
-    lay_value(
-        reply,
-        column,
-        row,
-        page_field::kind(found, column.property),
-        page_field::content(found, offset),
-    );
-    lay_status(reply, column, row, page_field::status(found));
-    lay_length(
-        reply,
-        column,
-        row,
-        page_field::length_sent(found, column.property),
-    );
+    lay_spans(reply, records, index, row, page::TEXT_TYPE, offset, 0, size);
     place
 }

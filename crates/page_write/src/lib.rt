@@ -6,7 +6,6 @@ ghost use Rattle.page.specs.RowReady.{NumbersReady, RowsReady};
 ghost use Rattle.page.specs.Page.{statusFor};
 ghost use Rattle.page.specs.PageReady.{PageReady};
 ghost use Rattle.page.specs.PageTold.{RowsLaid, Paged};
-use catalogue::Fields;
 use catalogue::Row;
 use page::Sheet;
 
@@ -24,6 +23,7 @@ fn lay_rows(
     ensures { λ r. ⌜ RowsLaid sheet (now (records .entry)) (now (catalogue .entry)) (now (places .entry))
         (now (numbers .entry)) r (now (reply .entry)) (now (reply .exit)) ⌝ }
 {
+    let texts = page_row::texts_sent(records, sheet.bound);
     let mut row = sheet.from;
     let mut top = sheet.size;
     let mut sent = 0;
@@ -33,12 +33,12 @@ fn lay_rows(
         }
         let number = numbers[sent];
         let at = page_row::place_of(places, Row(number));
-        let fields: Fields = catalogue_row::fields_at(catalogue, at);
-        let need = sheet.width + page_row::row_blocks(catalogue, at, fields, records, sheet.bound);
+        let fields = catalogue_row::fields_at(catalogue, at);
+        let need = sheet.width + page_row::row_blocks(texts, &fields);
         if top - row < need {
             return sent;
         }
-        top = page_row::lay_row(reply, catalogue, at, fields, records, sheet, row, top);
+        top = page_row::lay_row(reply, catalogue, at, &fields, records, sheet, row, top);
         row += sheet.width;
         sent += 1;
     }

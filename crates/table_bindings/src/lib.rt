@@ -42,16 +42,17 @@ fn tidy(records: &[u32], index: usize) -> bool
     ensures { λ r. ⌜ r ≡ tidy (columnAt (now (records .entry)) index) ⌝ }
 {
     let at = bindings::COLUMN_WORDS * index;
-    let value = wide(records[at + 3]) + wide(records[at + 4]);
-    if !flagged(records[at + 2], value) {
+    let value = wide(records[at + bindings::VALUE_OFFSET])
+        + wide(records[at + bindings::VALUE_SIZE]);
+    if !flagged(records[at + bindings::VALUE_USED], value) {
         return false;
     }
-    let status = wide(records[at + 6]);
-    if !flagged(records[at + 5], status) {
+    let status = wide(records[at + bindings::STATUS_OFFSET]);
+    if !flagged(records[at + bindings::STATUS_USED], status) {
         return false;
     }
-    let length = wide(records[at + 8]);
-    flagged(records[at + 7], length)
+    let length = wide(records[at + bindings::LENGTH_OFFSET]);
+    flagged(records[at + bindings::LENGTH_USED], length)
 }
 
 // The flags of each column.

@@ -23,6 +23,7 @@ use Rattle.tree.proofs.LeafWords.{relation-words, content-words}
 use Rattle.tree.specs.VerdictTold.{told}
 use Rattle.tree.specs.LeafPlaces.{localeAt}
 use Rattle.tree.specs.HoldTold.{relationTold, contentTold, leafTold}
+use Rattle.tree.specs.SizeTold.{leafSize}
 use Rattle.catalogue.specs.CatalogueReady.{FieldsReady, UnitsReady}
 use Rattle.tree.specs.HoldReady.{LeafReady}
 
@@ -72,6 +73,9 @@ module _ (kind : ℕ) (s : List ℕ) (w : LeafReady kind s) where
     pub relation-is : (held : List ℕ) (f : Fields) → relationTold s f ≡ leafTold kind s (rowOf held f)
     relation-is held f = let r = relation-words s (w .parts) (w .used) relation-read in rw (w .read, r .1, r .2)
 
+    pub relation-size : 44 ≡ leafSize kind s
+    relation-size = let r = relation-words s (w .parts) (w .used) relation-read in rw (w .read, r .2)
+
   module _ (k : kind ≡ 4) where
     content-read : contentAt s 0 ≡ LeafTo (w .parts) (w .used)
     content-read = rw (eq-eqb kind 4 k) at (w .read)
@@ -83,6 +87,9 @@ module _ (kind : ℕ) (s : List ℕ) (w : LeafReady kind s) where
     content-is held f =
         let r = content-words s 0 (w .parts) (w .used) content-read in
         rw (text-named held (numberAt 4 s 28) (f .label) (f .note), w .read, r .1, r .2)
+
+    pub content-size : localeAt s 0 + 8 ≡ leafSize kind s
+    content-size = let r = content-words s 0 (w .parts) (w .used) content-read in rw (w .read, r .2)
 
 -- a leaf takes a multiple of 4
 pub leaf-fours : (kind : ℕ) (s : List ℕ) (w : LeafReady kind s) → w .used % 4 ≡ 0

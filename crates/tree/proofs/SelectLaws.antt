@@ -18,10 +18,9 @@ use Rattle.catalogue.specs.declared.Reading.the-variants.{Number, Malformed}
 use Rattle.catalogue.proofs.Inside.{reading-read}
 use Rattle.catalogue.specs.Limits.{rowsMost, bytesMost}
 use Rattle.catalogue.specs.Plain.{Row}
-use Rattle.catalogue.specs.CataloguePlaces.{withNumber, rowAt, rowsEnd, rowSeen, malformed, counted as checkCounted, checked, places, noted}
+use Rattle.catalogue.specs.CataloguePlaces.{withNumber, rowsEnd, rowSeen, malformed, counted as checkCounted, checked, places, noted}
 use Rattle.catalogue.specs.CatalogueReady.{RowAtReady}
 use Rattle.catalogue.specs.declared.Checked.{Checked}
-use Rattle.catalogue.specs.declared.RowAt.the-variants.{NoRow}
 use Rattle.catalogue.proofs.Agree.{accepted, catalogue-agrees, rows-counted, row-stands}
 use Rattle.tree.specs.Tree.{Tree}
 use Rattle.tree.specs.TreeHolds.{heldBy}
@@ -30,9 +29,6 @@ use Rattle.tree.specs.Select.{numbersFrom, selectedBy, selected}
 use Rattle.tree.specs.SelectTold.{Selected}
 use Rattle.tree.proofs.Selection.{numbers-few}
 use Rattle.tree.specs.SelectReady.{NotedReady}
-
-pub no-row : {A : Type 0} (s : List ℕ) (at : ℕ) → RowAtReady s at → rowAt s at ≡ NoRow → A
-no-row s at w e = let z : _≡_ {A = ℕ} 0 1 = cc (w .2, e) in absurd (omega arith)
 
 -- the numbers of the rows from the i-th on
 abbrev pub left : List ℕ → List ℕ → ℕ → List ℕ

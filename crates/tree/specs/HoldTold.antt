@@ -48,3 +48,8 @@ NodeTold s levels row answer = Tells (readTree levels) s row answer
 
 abbrev pub ListTold : ℕ → List ℕ → ℕ → Row → ℕ → Type 0
 ListTold kind s levels row answer = Tells (branchRead (readTree levels) kind) s row answer
+
+-- whether that list holds for a row
+abbrev pub ListHolds : ℕ → List ℕ → ℕ → Row → Bool → Type 0
+ListHolds kind s levels row answer =
+    (place nodes : ℕ) (r : TreeRead) → place % 4 ≡ 0 → branchRead (readTree levels) kind nodes place s ≡ some r → answer ≡ holds (r .tree) row

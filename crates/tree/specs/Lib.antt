@@ -16,5 +16,6 @@ pub mod SelectReady
 pub mod VerdictTold
 pub mod NodeTold
 pub mod HoldTold
+pub mod SizeTold
 pub mod SelectTold
 pub mod Numbered

@@ -1,8 +1,8 @@
 -- What the code says of a node: one number for the bytes that it takes and whether it holds.
-use mathlib.Core.Bool.{Bool}
+use mathlib.Core.Bool.{Bool, not}
 use Prim.Native.Nat.{ℕ, _+_, _-_, _*_, _%_}
 use lib.Dec.{eqb}
-use Rattle.lists.specs.Below.{pick, both, either}
+use Rattle.lists.specs.Below.{pick}
 use Rattle.tree.specs.Kinds.{andKind}
 
 -- twice the bytes that a node takes, and one more where it holds
@@ -13,6 +13,6 @@ told holds used = 2 * used + pick holds 1 0
 abbrev pub turned : ℕ → ℕ
 turned answer = pick (eqb (answer % 2) 1) (answer - 1) (answer + 1)
 
--- an and holds where it held so far and one child more does, an or where one of the two does
-abbrev pub withChild : ℕ → Bool → Bool → Bool
-withChild kind before child = pick (eqb kind andKind) (both before child) (either before child)
+-- a child that settles the answer of its list, whatever the others say: one that fails in an and, one that holds in an or
+abbrev pub decides : ℕ → Bool → Bool
+decides kind child = pick (eqb kind andKind) (not child) child

@@ -2,10 +2,8 @@
 ghost use mathlib.Core.Path.{_≡_};
 ghost use Rattle.wire.specs.Word.{halves};
 ghost use Rattle.catalogue.specs.CataloguePlaces.{textOf};
-ghost use Rattle.wire.specs.Property.{ofNumbers, ofTexts};
 ghost use Rattle.tree.specs.LeafHolds.{relationHolds, phraseHolds};
 ghost use Rattle.catalogue.specs.CatalogueReady.{UnitsReady};
-use catalogue::Fields;
 use catalogue::Text;
 
 // Whether the row's value has the relation to the tree's.
@@ -20,27 +18,6 @@ pub fn relation_holds(relop: u32, mine: u64, yours: u64) -> bool
         4 => mine == yours,
         _ => mine != yours,
     }
-}
-
-// The row's number that a property names.
-pub fn number_of(property: u32, row: Fields) -> u64
-    ensures { λ r. ⌜ r ≡ ofNumbers property (row .key) (row .language) (row .default) ⌝ }
-{
-    match property {
-        wire::KEY => row.key,
-        wire::LANGUAGE => row.language,
-        _ => row.default,
-    }
-}
-
-// The row's text that a property names.
-pub fn text_of(property: u32, row: Fields) -> Text
-    ensures { λ r. ⌜ r ≡ ofTexts property (row .label) (row .note) ⌝ }
-{
-    if property == wire::LABEL {
-        return row.label;
-    }
-    row.note
 }
 
 // Whether a phrase occurs in a text.

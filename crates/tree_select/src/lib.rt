@@ -11,7 +11,6 @@ ghost use Rattle.tree.specs.Reader.{restriction, isTree};
 ghost use Rattle.tree.specs.SelectTold.{Selected};
 ghost use Rattle.tree.specs.SelectReady.{NotedReady};
 use catalogue::Row;
-use catalogue::RowAt;
 
 // The place of a row in the catalogue, by its number.
 fn place_of(places: &[u32; catalogue::ROWS_MOST], row: Row) -> u32
@@ -26,10 +25,8 @@ fn holds_at(tree: &[u8], catalogue: &[u8], place: u32) -> bool
     requires { ⌜ (isTree (restriction (now tree)) ≡ true) × RowAtReady (now catalogue) place ⌝ }
     ensures { λ r. ⌜ r ≡ heldBy (restriction (now (tree .entry))) (rowSeen (now (catalogue .entry)) place) ⌝ }
 {
-    let RowAt::RowTo(row, _) = catalogue_row::row_again(catalogue, place as usize) else {
-        return false;
-    };
-    tree_hold::holds(tree, catalogue, row)
+    let row = catalogue_row::fields_at(catalogue, place as usize);
+    tree_hold::holds(tree, catalogue, &row)
 }
 
 // The numbers of the selected rows go into the lent words from the first on; their count is returned. Each row is

@@ -1,7 +1,7 @@
 // What is said of a node of a tree: the bytes that it takes, and whether it holds.
 ghost use mathlib.Core.Path.{_≡_};
 ghost use Prim.Native.Nat.{_^_, _<_};
-ghost use Rattle.tree.specs.VerdictTold.{told, turned, withChild};
+ghost use Rattle.tree.specs.VerdictTold.{told, turned, decides};
 
 // A node's answer in one number, since two would be passed in memory: twice the bytes that it takes, and one more
 // where it holds.
@@ -26,15 +26,12 @@ pub fn turned(answer: usize) -> usize
     answer + 1
 }
 
-// What an and or an or holds with one child more.
-pub fn with_child(kind: u32, before: bool, child: bool) -> bool
-    ensures { λ r. ⌜ r ≡ withChild kind before child ⌝ }
+// Whether a child settles the answer of its list.
+pub fn decides(kind: u32, child: bool) -> bool
+    ensures { λ r. ⌜ r ≡ decides kind child ⌝ }
 {
     if kind == tree::AND {
-        return lists_test::both(before, child);
-    }
-    if before {
-        return true;
+        return !child;
     }
     child
 }

@@ -1,14 +1,14 @@
 -- Laws of one span laid over a list: its length, each byte of it, and what a second one finds. Assumes nothing.
 use mathlib.Core.Path.{_≡_, refl, sym, ap, _∙_}
-use mathlib.Core.List.{List, _++_, append-assoc}
+use mathlib.Core.List.{List, _++_, append-assoc, append-nil}
 use mathlib.Core.Logic.{_⊎_, inl, inr, ⊎-elim}
 use Prim.Native.Nat.{ℕ, _+_, _-_, _≤_, _<_, min}
-use native.Mathlib.Nat.{add-assoc}
+use native.Mathlib.Nat.{add-assoc, zero-add}
 use native.Mathlib.Omega.{arith}
-use lib.ListN.{length, getD, take, drop, length-append, length-take, length-drop, List·getD-append}
+use lib.ListN.{length, getD, take, drop, length-append, length-take, length-drop, drop-of-length-le, List·getD-append}
 use borrow.Author.Tests.{ltb-true, ltb-false}
 use lib.Dec.{ltb}
-use lib.Seq.{sets, sets-eq, paste, ext-getD, take-at, drop-at, take-all, getD-take, getD-drop, getD-append-add, length-take-le, drop-append-add, drop-drop}
+use lib.Seq.{sets, sets-eq, paste, ext-getD, take-at, drop-at, take-all, getD-take, getD-drop, getD-append-add, length-take-le, drop-append-add, drop-drop, take-add}
 use Rattle.lists.proofs.Below.{by-test}
 use Rattle.wire.specs.Laid.{lay}
 use Rattle.lists.specs.Parts.{part}
@@ -172,3 +172,81 @@ lay-join t at x y inside =
 -- the same where the first one's length is told as a number
 pub lay-next : (t : List ℕ) (at n : ℕ) (x y : List ℕ) → length x ≡ n → at + n ≤ length t → lay (lay t at x) (at + n) y ≡ lay t at (x ++ y)
 lay-next t at n x y e inside = ap (λ (k : ℕ). lay (lay t at x) (at + k) y) (sym e) ∙ lay-join t at x y (omega arith)
+
+-- all of a list is laid over
+pub lay-whole : (t b : List ℕ) → length t ≤ length b → lay t 0 b ≡ b
+unfolding lay
+lay-whole t b h = rw (zero-add (length b), drop-of-length-le t {i = length b} h) (append-nil b)
+
+-- a span laid at the place of another that is no longer leaves nothing of it
+pub lay-again : (t : List ℕ) (at : ℕ) (x y : List ℕ) → at + length x ≤ length t → length x ≤ length y → lay (lay t at x) at y ≡ lay t at y
+unfolding lay
+lay-again t at x y inside short =
+    rw (take-at (take at t) (x ++ rest) at (length-take-le at t (omega arith)))
+    (ap (λ (u : List ℕ). take at t ++ (y ++ u)) after)
+  where
+    rest : List ℕ
+    rest = drop (at + length x) t
+
+    over : ℕ
+    over = length y - length x
+
+    long : at + length y ≡ length (take at t ++ x) + over
+    long = omega (arith, length-append (take at t) x, length-take-le at t (omega arith))
+
+    back : at + length x + over ≡ at + length y
+    back = omega arith
+
+    after : drop (at + length y) (take at t ++ (x ++ rest)) ≡ drop (at + length y) t
+    after =
+        ap (drop (at + length y)) (sym (append-assoc (take at t) x rest))
+        ∙ ap (λ (n : ℕ). drop n ((take at t ++ x) ++ rest)) long
+        ∙ drop-append-add (take at t ++ x) rest over
+        ∙ drop-drop over (at + length x) t
+        ∙ ap (λ (n : ℕ). drop n t) back
+
+-- the first i members of a list are laid, and then a part of it that begins no later than they end
+pub lay-part : (t : List ℕ) (at : ℕ) (b : List ℕ) (i j n : ℕ) → at + length b ≤ length t → j ≤ i → i ≤ j + n → j + n ≤ length b
+    → lay (lay t at (take i b)) (at + j) (part b j n) ≡ lay t at (take (j + n) b)
+lay-part t at b i j n inside begun met ends =
+    ap (λ (u : List ℕ). lay (lay t at u) (at + j) (part b j n)) parted
+    ∙ ap (λ (u : List ℕ). lay u (at + j) (part b j n)) (sym (lay-next t at j (take j b) (part b j (i - j)) short fits))
+    ∙ lay-again (lay t at (take j b)) (at + j) (part b j (i - j)) (part b j n) (omega (arith, less, kept)) (omega (arith, less, all))
+    ∙ lay-next t at j (take j b) (part b j n) short fits
+    ∙ ap (lay t at) (sym (take-add j n b))
+  where
+    apart : i ≡ j + (i - j)
+    apart = omega arith
+
+    parted : take i b ≡ take j b ++ part b j (i - j)
+    parted = ap (λ (k : ℕ). take k b) apart ∙ take-add j (i - j) b
+
+    short : length (take j b) ≡ j
+    short = length-take-le j b (omega arith)
+
+    fits : at + j ≤ length t
+    fits = omega arith
+
+    less : length (part b j (i - j)) ≡ i - j
+    less = length-take-le (i - j) (drop j b) (omega (arith, length-drop j b))
+
+    all : length (part b j n) ≡ n
+    all = length-take-le n (drop j b) (omega (arith, length-drop j b))
+
+    kept : length (lay t at (take j b)) ≡ length t
+    kept = lay-length t at (take j b) (omega (arith, short))
+
+-- the same where the part is the list's last n members: all of it is laid
+pub lay-last : (t : List ℕ) (at : ℕ) (b : List ℕ) (i n : ℕ) → at + length b ≤ length t → n ≤ length b → length b - n ≤ i
+    → i ≤ length b → lay (lay t at (take i b)) (at + (length b - n)) (part b (length b - n) n) ≡ lay t at b
+lay-last t at b i n inside short begun met =
+    lay-part t at b i (length b - n) n inside begun (omega arith) (omega arith)
+    ∙ ap (lay t at) (take-all (length b - n + n) b (omega arith))
+
+-- a part of a list is laid, and then the part that follows it
+pub lay-parts : (t : List ℕ) (at : ℕ) (b : List ℕ) (i m n : ℕ) → at + m ≤ length t → i + m ≤ length b
+    → lay (lay t at (part b i m)) (at + m) (part b (i + m) n) ≡ lay t at (part b i (m + n))
+lay-parts t at b i m n inside ends =
+    lay-next t at m (part b i m) (part b (i + m) n) (length-take-le m (drop i b) (omega (arith, length-drop i b))) inside
+    ∙ ap (λ (u : List ℕ). lay t at (part b i m ++ take n u)) (sym (drop-drop m i b))
+    ∙ ap (lay t at) (sym (take-add m n (drop i b)))

@@ -1,11 +1,10 @@
--- Each part of the definition is judged in turn; the spans of the columns are those by index. Assumes nothing.
+-- Each part of the definition is judged in turn. Assumes nothing.
 use borrow.Author.Needs.{needs}
 use Rattle.bindings_fit.proofs.columns_for.Statement.{statement}
 use Rattle.bindings_fit.proofs.columns_for.Tie as tie
 use mathlib.Core.Path.{sym, _∙_}
 use borrow.Author.Tests.{not-true, not-false}
 use Rattle.bindings.specs.Fit.{columnsFit}
-use Rattle.bindings.proofs.Spans.{spans-by-index}
 
 columns-fit-requires : tie.Need-columns-fit-requires
 columns-fit-requires c κs = search needs
@@ -25,20 +24,15 @@ returns-2 c =
       sym (c .before .bound-once .ensures) ∙ not-true _ (c .if2 .taken),
     )
 
-mul-total : tie.Need-mul-total
-mul-total c = search needs
-
 all-inside-requires : tie.Need-all-inside-requires
 all-inside-requires c κs = search needs
 
 returns-3 : tie.Need-returns-3
 unfolding columnsFit
 returns-3 c =
-    let a = c .before .before .before .before .before .before .before .args in
     rw (
       sym (c .before .before .before .before .before .columns-fit .ensures) ∙ not-false _ (c .before .before .before .before .if1 .left),
       sym (c .before .before .before .bound-once .ensures) ∙ not-false _ (c .before .before .if2 .left),
-      spans-by-index (a .count) 0 (a .records .now),
       sym (c .before .all-inside .ensures) ∙ not-true _ (c .if3 .taken),
     )
 
@@ -48,11 +42,9 @@ none-meet-requires c κs = search needs
 returns-4 : tie.Need-returns-4
 unfolding columnsFit
 returns-4 c =
-    let a = c .before .before .before .before .before .before .before .before .args in
     rw (
       sym (c .before .before .before .before .before .before .columns-fit .ensures) ∙ not-false _ (c .before .before .before .before .before .if1 .left),
       sym (c .before .before .before .before .bound-once .ensures) ∙ not-false _ (c .before .before .before .if2 .left),
-      spans-by-index (a .count) 0 (a .records .now),
       sym (c .before .before .all-inside .ensures) ∙ not-false _ (c .before .if3 .left),
     ) (c .none-meet .ensures)
 
@@ -64,7 +56,6 @@ columns-for-spec =
     returns
     bound-once-requires
     returns-2
-    mul-total
     all-inside-requires
     returns-3
     none-meet-requires

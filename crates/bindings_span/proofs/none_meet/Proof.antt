@@ -1,61 +1,89 @@
--- The spans that are left decide as all of them do: each is held against those after it. Assumes nothing.
+-- The columns that are left decide as all of them do: the spans of each are held against each other and against those after it. Assumes nothing.
+use borrow.Author.Needs.{needs}
 use Rattle.bindings_span.proofs.none_meet.Statement.{statement}
 use Rattle.bindings_span.proofs.none_meet.Tie as tie
-use borrow.Author.Needs.{needs}
 use Prim.Native.Nat.{_+_, _-_}
 use mathlib.Core.Path.{_≡_, sym, ap, _∙_}
+use mathlib.Core.List.{[], _∷_}
 use native.Mathlib.Omega.{arith}
 use borrow.Author.Tests.{not-true, not-false}
-use Rattle.lists.specs.Every.{every, pairwise}
-use Rattle.bindings.specs.Fit.{apart}
-use Rattle.bindings.specs.SpanPlaces.{spansFrom}
-use Rattle.bindings.specs.declared.Span.{Span}
+use Rattle.lists.specs.Every.{across, pairwise}
+use Rattle.lists.proofs.Below.{both-stop, both-go}
 use Rattle.lists.proofs.Every.{pair-none}
-use Rattle.bindings.proofs.Spans.{two-more, two-stop, spans-none}
+use Rattle.bindings.specs.Column.{columnsFrom}
+use Rattle.bindings.specs.Fit.{spansOf, apart}
+use Rattle.bindings.specs.declared.Column.{Column}
+use Rattle.bindings.proofs.Spans.{left-pairs, left-none}
 
 abbrev Inv-loop : tie.InvT-loop
-Inv-loop words total i₀ left₀ i left = (i + left ≡ total) × (pairwise apart (spansFrom total 0 words) ≡ pairwise apart (spansFrom left i words))
+Inv-loop words columns k₀ left₀ k left =
+    (k + left ≡ columns) × (pairwise apart (spansOf (columnsFrom columns 0 words)) ≡ pairwise apart (spansOf (columnsFrom left k words)))
 
 abbrev μ-loop : tie.MeasureT-loop
-μ-loop words total i₀ left₀ i left = left
+μ-loop words columns k₀ left₀ k left = left
 
 loop-holds : tie.Need-loop-holds Inv-loop μ-loop
 loop-holds c = search needs
 
-span-at-requires : tie.Need-span-at-requires Inv-loop μ-loop
-span-at-requires c κs = search needs
+column-at-requires : tie.Need-column-at-requires Inv-loop μ-loop
+column-at-requires c κs = search needs
 
-add-i : tie.Need-add-i Inv-loop μ-loop
-add-i c = search needs
+add-k : tie.Need-add-k Inv-loop μ-loop
+add-k c = search needs
 
 sub-left : tie.Need-sub-left Inv-loop μ-loop
 sub-left c = search needs
 
-clear-of-requires : tie.Need-clear-of-requires Inv-loop μ-loop
-clear-of-requires c κs = search needs
+own-apart-requires : tie.Need-own-apart-requires Inv-loop μ-loop
+own-apart-requires c κs = search needs
 
 returns : tie.Need-returns Inv-loop μ-loop
-returns c = let l = c .before .before .before .before .loop in
+returns c =
+    let l = c .before .before .before .before .loop in
     let words = c .before .before .before .before .before .before .args .records .now in
-    sym (l .inv .1 ∙ two-stop (l .left) (l .i) words (c .before .before .before .loop-test .taken)
-    (sym (ap (λ (a : Span). every (apart a) (spansFrom (l .left - 1) (l .i + 1) words)) (c .before .before .span-at .ensures))
-    ∙ sym (c .before .clear-of .ensures) ∙ not-true _ (c .if1 .taken)))
+    let own = c .before .own-apart .ensures ∙ ap (λ (d : Column). pairwise apart (spansOf (d ∷ []))) (c .before .before .column-at .ensures) in
+    sym (l .inv .1 ∙ left-pairs (l .left) (l .k) words (c .before .before .before .loop-test .taken) ∙ both-stop _ (sym own ∙ not-true _ (c .if1 .taken)))
+
+later-clear-requires : tie.Need-later-clear-requires Inv-loop μ-loop
+later-clear-requires c κs = search needs
+
+returns-2 : tie.Need-returns-2 Inv-loop μ-loop
+returns-2 c =
+    let l = c .before .before .before .before .before .before .loop in
+    let words = c .before .before .before .before .before .before .before .before .args .records .now in
+    let here = c .before .before .before .before .column-at .ensures in
+    let own = c .before .before .before .own-apart .ensures ∙ ap (λ (d : Column). pairwise apart (spansOf (d ∷ []))) here in
+    let later =
+    c .before .later-clear .ensures ∙ ap (λ (d : Column). across apart (spansOf (d ∷ [])) (spansOf (columnsFrom (l .left - 1) (l .k + 1) words))) here in
+    sym
+    (l .inv .1
+    ∙ left-pairs (l .left) (l .k) words (c .before .before .before .before .before .loop-test .taken)
+    ∙ both-go _ (sym own ∙ not-false _ (c .before .before .if1 .left))
+    ∙ both-stop _ (sym later ∙ not-true _ (c .if2 .taken)))
 
 loop-less : tie.Need-loop-less Inv-loop μ-loop
 loop-less c = search needs
 
 loop-again : tie.Need-loop-again Inv-loop μ-loop
-loop-again c = let l = c .before .before .before .before .loop in
-    let words = c .before .before .before .before .before .before .args .records .now in (
+loop-again c =
+    let l = c .before .before .before .before .before .before .loop in
+    let words = c .before .before .before .before .before .before .before .before .args .records .now in
+    let here = c .before .before .before .before .column-at .ensures in
+    let own = c .before .before .before .own-apart .ensures ∙ ap (λ (d : Column). pairwise apart (spansOf (d ∷ []))) here in
+    let later =
+    c .before .later-clear .ensures ∙ ap (λ (d : Column). across apart (spansOf (d ∷ [])) (spansOf (columnsFrom (l .left - 1) (l .k + 1) words))) here in (
       omega arith,
-      l .inv .1 ∙ two-more (l .left) (l .i) words (c .before .before .before .loop-test .taken)
-          (rw (← c .before .before .span-at .ensures) (sym (c .before .clear-of .ensures) ∙ not-false _ (c .if1 .left))),
+      l .inv .1
+          ∙ left-pairs (l .left) (l .k) words (c .before .before .before .before .before .loop-test .taken)
+          ∙ both-go _ (sym own ∙ not-false _ (c .before .before .if1 .left))
+          ∙ both-go _ (sym later ∙ not-false _ (c .if2 .left)),
     )
 
-returns-2 : tie.Need-returns-2 Inv-loop μ-loop
-returns-2 c = let l = c .before .loop in
+returns-3 : tie.Need-returns-3 Inv-loop μ-loop
+returns-3 c =
+    let l = c .before .loop in
     let words = c .before .before .before .args .records .now in
-    sym (l .inv .1 ∙ pair-none apart (spans-none (l .left) (l .i) words (omega arith)))
+    sym (l .inv .1 ∙ pair-none apart (left-none (l .left) (l .k) words (omega arith)))
 
 pub none-meet-spec : {M : Type 1} → statement M
 none-meet-spec =
@@ -64,11 +92,13 @@ none-meet-spec =
     Inv-loop
     μ-loop
     loop-holds
-    span-at-requires
-    add-i
+    column-at-requires
+    add-k
     sub-left
-    clear-of-requires
+    own-apart-requires
     returns
+    later-clear-requires
+    returns-2
     loop-less
     loop-again
-    returns-2)
+    returns-3)

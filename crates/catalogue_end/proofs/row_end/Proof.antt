@@ -1,104 +1,71 @@
--- `catalogue_end::row_end` meets its contract: at each return the answers so far pick the case of `rowAt`. Assumes nothing.
-use borrow.Author.Needs.{needs}
+-- `catalogue_end::row_end` meets its contract. The loop's invariant: the row ends where the texts that are left end. Assumes nothing.
 use Rattle.catalogue_end.proofs.row_end.Statement.{statement}
 use Rattle.catalogue_end.proofs.row_end.Tie as tie
-use mathlib.Core.Path.{sym, _∙_}
-use Rattle.catalogue.specs.CataloguePlaces.{rowAt}
-use Rattle.catalogue.proofs.EndLaws.{text-gone, row-ends}
+use borrow.Author.Needs.{needs}
+use mathlib.Core.Path.{_≡_, sym, _∙_}
+use Rattle.catalogue.specs.CataloguePlaces.{rowAt, rowEnd, textsEnd}
+use Rattle.catalogue.proofs.EndLaws.{texts-gone, texts-more, texts-none, row-texts, row-numberless}
 
-read-requires : tie.Need-read-requires
-read-requires c κs = search needs
+abbrev Inv-loop : tie.InvT-loop
+Inv-loop catalogue at place₀ left₀ place left = rowEnd (rowAt catalogue at) ≡ textsEnd left catalogue place
 
-enum-known-at1 : tie.Need-enum-known-at1
-enum-known-at1 c = search needs
+abbrev μ-loop : tie.MeasureT-loop
+μ-loop catalogue at place₀ left₀ place left = left
 
-enum-told : tie.Need-enum-told
-enum-told c = search needs
+numbers-end-requires : tie.Need-numbers-end-requires Inv-loop μ-loop
+numbers-end-requires c κs = search needs
 
-returns : tie.Need-returns
-unfolding rowAt
-returns c = rw (sym (c .before .before .read .ensures) ∙ c .enum-told .given .1)
+returns : tie.Need-returns Inv-loop μ-loop
+returns c =
+    let a = c .before .before .before .args in
+    sym (row-numberless (a .catalogue .now) (a .at) (sym (c .before .numbers-end .ensures) ∙ c .if1 .taken))
 
-read-requires-2 : tie.Need-read-requires-2
-read-requires-2 c κs = search needs
+loop-holds : tie.Need-loop-holds Inv-loop μ-loop
+loop-holds c =
+    let a = c .before .before .before .args in
+    let numbers = c .before .numbers-end in
+    row-texts (a .catalogue .now) (a .at) (numbers .result) (numbers .ensures) (c .if1 .left)
 
-enum-known-at2 : tie.Need-enum-known-at2
-enum-known-at2 c = search needs
-
-enum-told-2 : tie.Need-enum-told-2
-enum-told-2 c = search needs
-
-returns-2 : tie.Need-returns-2
-unfolding rowAt
-returns-2 c =
-    rw (
-      sym (c .before .before .before .before .before .before .read .ensures) ∙ c .before .before .before .before .at1 .given .1,
-      sym (c .before .before .read2 .ensures) ∙ c .enum-told2 .given .1,
-    )
-
-read-requires-3 : tie.Need-read-requires-3
-read-requires-3 c κs = search needs
-
-enum-known-at3 : tie.Need-enum-known-at3
-enum-known-at3 c = search needs
-
-enum-told-3 : tie.Need-enum-told-3
-enum-told-3 c = search needs
-
-returns-3 : tie.Need-returns-3
-unfolding rowAt
-returns-3 c =
-    rw (
-      sym (c .before .before .before .before .before .before .before .before .before .before .read .ensures) ∙ c .before .before .before .before .before .before .before .before .at1 .given .1,
-      sym (c .before .before .before .before .before .before .read2 .ensures) ∙ c .before .before .before .before .at2 .given .1,
-      sym (c .before .before .read3 .ensures) ∙ c .enum-told3 .given .1,
-    )
-
-text-end-requires : tie.Need-text-end-requires
+text-end-requires : tie.Need-text-end-requires Inv-loop μ-loop
 text-end-requires c κs = search needs
 
-returns-4 : tie.Need-returns-4
-unfolding rowAt
-returns-4 c =
-    let s = c .before .before .before .before .before .before .before .before .before .before .before .before .before .before .before .args .catalogue .now in
-    rw (
-      sym (c .before .before .before .before .before .before .before .before .before .before .before .before .before .read .ensures) ∙ c .before .before .before .before .before .before .before .before .before .before .before .at1 .given .1,
-      sym (c .before .before .before .before .before .before .before .before .before .read2 .ensures) ∙ c .before .before .before .before .before .before .before .at2 .given .1,
-      sym (c .before .before .before .before .before .read3 .ensures) ∙ c .before .before .before .at3 .given .1,
-      text-gone s (c .before .before .before .at3 .given .0 .1 .0) (sym (c .before .text-end .ensures) ∙ c .if1 .taken),
-    )
+returns-2 : tie.Need-returns-2 Inv-loop μ-loop
+returns-2 c =
+    let l = c .before .before .before .loop in
+    let s = c .before .before .before .before .before .before .before .args .catalogue .now in
+    sym (l .inv ∙ texts-gone (l .left) s (l .place) (search needs) (sym (c .before .text-end .ensures) ∙ c .if2 .taken))
 
-text-end-requires-2 : tie.Need-text-end-requires-2
-text-end-requires-2 c κs = search needs
+sub-left : tie.Need-sub-left Inv-loop μ-loop
+sub-left c = search needs
 
-returns-5 : tie.Need-returns-5
-returns-5 c =
-    let a = c .before .before .before .before .before .before .before .before .before .before .before .before .before .before .before .before .args in
-    row-ends (a .catalogue .now) (a .at) _ _ _ _ _ (c .before .before .before .before .at3 .given .0 .1 .0) (c .before .before .text-end .result) _
-    (sym (c .before .before .before .before .before .before .before .before .before .before .before .before .before .before .read .ensures) ∙ c .before .before .before .before .before .before .before .before .before .before .before .before .at1 .given .1)
-    (sym (c .before .before .before .before .before .before .before .before .before .before .read2 .ensures) ∙ c .before .before .before .before .before .before .before .before .at2 .given .1)
-    (sym (c .before .before .before .before .before .before .read3 .ensures) ∙ c .before .before .before .before .at3 .given .1)
-    (c .before .before .text-end .ensures)
-    (c .before .if1 .left)
-    (c .text-end2 .ensures)
+loop-less : tie.Need-loop-less Inv-loop μ-loop
+loop-less c = search needs
+
+loop-again : tie.Need-loop-again Inv-loop μ-loop
+loop-again c =
+    let l = c .before .before .before .loop in
+    let s = c .before .before .before .before .before .before .before .args .catalogue .now in
+    let text = c .before .text-end in
+    l .inv ∙ texts-more (l .left) s (l .place) (search needs) (text .result) (text .ensures) (c .if2 .left)
+
+returns-3 : tie.Need-returns-3 Inv-loop μ-loop
+returns-3 c =
+    let l = c .before .loop in
+    let s = c .before .before .before .before .before .args .catalogue .now in
+    sym (l .inv ∙ texts-none (l .left) s (l .place) (search needs))
 
 pub row-end-spec : {M : Type 1} → statement M
 row-end-spec =
     tie.close
     (tie.spec
-    read-requires
-    enum-known-at1
-    enum-told
+    Inv-loop
+    μ-loop
+    numbers-end-requires
     returns
-    read-requires-2
-    enum-known-at2
-    enum-told-2
-    returns-2
-    read-requires-3
-    enum-known-at3
-    enum-told-3
-    returns-3
+    loop-holds
     text-end-requires
-    returns-4
-    text-end-requires-2
-    returns-5)
+    returns-2
+    sub-left
+    loop-less
+    loop-again
+    returns-3)

@@ -1,56 +1,43 @@
--- Nothing where the value is not used or the field has no block, else the text's. Assumes nothing.
+-- Nothing where the value is not used, else the text's block below the place. Assumes nothing.
 use borrow.Author.Needs.{needs}
 use Rattle.page_column.proofs.lay_block.Statement.{statement}
 use Rattle.page_column.proofs.lay_block.Tie as tie
-use Rattle.wire.specs.Laid.{lays}
-use Rattle.page.specs.Cell.{blockSpan}
-use Rattle.page.specs.FieldPlaces.{fieldSeen}
-use Rattle.page.proofs.Fields.{laid-unused, block-laid, block-fits}
+use borrow.Author.Tests.{eq-eqb}
+use Prim.Native.Nat.{_*_, _≤_}
+use native.Mathlib.Omega.{arith}
+use Rattle.catalogue.specs.CataloguePlaces.{textOf}
+use Rattle.page.specs.Field.{textField}
+use Rattle.page.proofs.Column.{block-unlaid, block-laid}
 
 returns : tie.Need-returns
-returns c = let a = c .before .before .before .args in laid-unused (a .reply .now) (a .used) (blockSpan (a .place) (fieldSeen (a .catalogue .now) (a .field))) (c .if1 .taken)
+returns c =
+    let a = c .before .before .before .args in
+    block-unlaid (a .reply .now) (a .used) (a .top) (a .text) (textField (textOf (a .catalogue .now) (a .text))) (c .if1 .taken)
 
-enum-told : tie.Need-enum-told
-enum-told c = search needs
+mul-place : tie.Need-mul-place
+mul-place c = search needs
 
-enum-known-field : tie.Need-enum-known-field
-enum-known-field c = search needs
+sub-place : tie.Need-sub-place
+sub-place c =
+    let room : 2 * c .before .before .before .before .args .text .size ≤ c .before .before .before .before .args .top = rw (eq-eqb _ 1 (c .before .if1 .left)) at (c .before .before .before .before .pre .2) in
+    room
 
 lay-text-requires : tie.Need-lay-text-requires
-lay-text-requires c κs = let a = c .before .before .before .before .before .before .before .args in
-    block-fits _ (a .place) (a .used) (a .catalogue .now) (a .field) (c .before .before .field .given .0 .0) (c .before .before .before .before .if1 .left) (c .before .before .field .given .1) (c .before .before .before .before .before .before .before .pre .0) (c .before .before .before .before .before .before .before .pre .1)
-
-enum-told-2 : tie.Need-enum-told-2
-enum-told-2 c = search needs
-
-returns-2 : tie.Need-returns-2
-unfolding lays
-returns-2 c = let a = c .before .before .before .before .before .args in
-    block-laid (a .reply .now) (a .reply .now) (a .used) (a .place) (fieldSeen (a .catalogue .now) (a .field)) (c .before .before .if1 .left) (rw (c .enum-told .given .1))
+lay-text-requires c κs =
+    let entry = c .before .before .before .before .before in
+    let room : 2 * entry .args .text .size ≤ entry .args .top = rw (eq-eqb _ 1 (c .before .before .if1 .left)) at (entry .pre .2) in
+    (entry .pre .0, entry .pre .1, omega (arith, room), entry .pre .3)
 
 same-length : tie.Need-same-length
 same-length c = search needs
 
-returns-3 : tie.Need-returns-3
-unfolding lays
-returns-3 c = let a = c .before .before .before .before .before .before .before .before .before .before .args in
-    block-laid (a .reply .now) (c .before .before .lay-text .last .0) (a .used) (a .place) (fieldSeen (a .catalogue .now) (a .field)) (c .before .before .before .before .before .before .before .if1 .left) (rw (c .before .before .before .before .before .field .given .1) (c .before .before .lay-text .ensures))
-
-returns-4 : tie.Need-returns-4
-unfolding lays
-returns-4 c = let a = c .before .before .before .before .before .args in
-    block-laid (a .reply .now) (a .reply .now) (a .used) (a .place) (fieldSeen (a .catalogue .now) (a .field)) (c .before .before .if1 .left) (rw (c .enum-told2 .given .1))
+returns-2 : tie.Need-returns-2
+returns-2 c =
+    let laid = c .before .before in
+    let entry = laid .before .before .before .before .before .before in
+    let a = entry .args in
+    block-laid (a .catalogue .now) (a .reply .now) (laid .lay-text .last .0) (a .used) (a .top) (a .text) (laid .before .before .before .if1 .left) (entry .pre .1) (laid .lay-text .ensures)
 
 pub lay-block-spec : {M : Type 1} → statement M
 lay-block-spec =
-    tie.close
-    (tie.spec
-    returns
-    enum-told
-    enum-known-field
-    lay-text-requires
-    enum-told-2
-    returns-2
-    same-length
-    returns-3
-    returns-4)
+    tie.close (tie.spec returns mul-place sub-place lay-text-requires same-length returns-2)

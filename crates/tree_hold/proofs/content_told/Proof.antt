@@ -3,6 +3,7 @@ use borrow.Author.Needs.{needs}
 use Rattle.tree_hold.proofs.content_told.Statement.{statement}
 use Rattle.tree_hold.proofs.content_told.Tie as tie
 use mathlib.Core.Path.{_∙_}
+use Rattle.catalogue.specs.CataloguePlaces.{fieldsOf}
 use Rattle.tree.proofs.Leaves.{text-inside, content-counted}
 
 word-requires : tie.Need-word-requires
@@ -49,7 +50,7 @@ phrase-holds-requires c κs =
     let named = c .before in
     let entry = named .before .before .before .before .before .before .before in
     rw (named .text-of .ensures)
-    (text-inside (entry .args .catalogue .now) (named .before .before .before .before .word .result) (entry .args .row) (entry .pre .1))
+    (text-inside (entry .args .catalogue .now) (named .before .before .before .before .word .result) (fieldsOf (entry .args .row .now)) (entry .pre .1))
 
 add-told : tie.Need-add-told
 add-told c = search needs
@@ -68,7 +69,7 @@ returns c =
     let a = specified .before .before .before .args in
     c .told .ensures
     ∙ content-counted (a .unread .now) (counted .word2 .result) (padded .padding .result) (counted .word2 .ensures) (padded .padding .ensures) (a .catalogue .now)
-    (a .row) (specified .word .result) (asked .word3 .result) (named .text-of .result) (found .phrase-holds .result)
+    (fieldsOf (a .row .now)) (specified .word .result) (asked .word3 .result) (named .text-of .result) (found .phrase-holds .result)
     (specified .word .ensures) (asked .word3 .ensures) (named .text-of .ensures) (found .phrase-holds .ensures)
 
 pub content-told-spec : {M : Type 1} → statement M

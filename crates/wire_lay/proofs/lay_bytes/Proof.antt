@@ -1,62 +1,73 @@
--- After i turns the first i bytes are copied; in the end all are. Assumes nothing.
+-- Of two sixteens the second, the last of the bytes, is laid over what it has of the first. Assumes nothing.
+use borrow.Author.Needs.{needs}
 use Rattle.wire_lay.proofs.lay_bytes.Statement.{statement}
 use Rattle.wire_lay.proofs.lay_bytes.Tie as tie
-use borrow.Author.Needs.{needs}
-use mathlib.Core.Path.{_≡_, refl, _∙_}
-use Prim.Native.Nat.{_≤_, _-_}
-use native.Mathlib.Numerals.{add-one}
+use mathlib.Core.Path.{ap, _∙_}
+use mathlib.Core.List.{List}
+use Prim.Native.Nat.{ℕ, _+_, _-_}
 use native.Mathlib.Omega.{arith}
-use lib.ListN.{length, length-set}
-use lib.Seq.{paste, paste-zero, paste-suc}
-use Rattle.wire.proofs.Lay.{copied}
+use lib.ListN.{length}
+use Rattle.lists.specs.Parts.{part}
+use Rattle.wire.specs.Laid.{lay}
+use Rattle.wire.proofs.Lay.{lay-last}
 
-abbrev Inv-loop : tie.InvT-loop
-Inv-loop reply₀ at bytes i₀ reply i = (i ≤ length bytes) × (length reply ≡ length reply₀) × (reply ≡ paste reply₀ at bytes i)
+lay-few-requires : tie.Need-lay-few-requires
+lay-few-requires c κs = search needs
 
-abbrev μ-loop : tie.MeasureT-loop
-μ-loop reply₀ at bytes i₀ reply i = length bytes - i
+same-length : tie.Need-same-length
+same-length c = search needs
 
-loop-holds : tie.Need-loop-holds Inv-loop μ-loop
-loop-holds c = let a = c .args in (omega arith, refl, paste-zero (a .reply .now) (a .at) (a .bytes .now))
+returns : tie.Need-returns
+returns c = search needs
 
-shared-slice-read-reply : tie.Need-shared-slice-read-reply Inv-loop μ-loop
-shared-slice-read-reply c = search needs
+sub-last : tie.Need-sub-last
+sub-last c = search needs
 
-add-reply : tie.Need-add-reply Inv-loop μ-loop
-add-reply c = search needs
+lay-sixteen-requires : tie.Need-lay-sixteen-requires
+lay-sixteen-requires c κs = search needs
 
-slice-write-reply : tie.Need-slice-write-reply Inv-loop μ-loop
-slice-write-reply c = search needs
+add-lay-sixteen : tie.Need-add-lay-sixteen
+add-lay-sixteen c = search needs
 
-add-i : tie.Need-add-i Inv-loop μ-loop
-add-i c = search needs
+lay-sixteen-requires-2 : tie.Need-lay-sixteen-requires-2
+lay-sixteen-requires-2 c κs = search needs
 
-loop-less : tie.Need-loop-less Inv-loop μ-loop
-loop-less c = search needs
+same-length-2 : tie.Need-same-length-2
+same-length-2 c = search needs
 
-loop-again : tie.Need-loop-again Inv-loop μ-loop
-loop-again c = let l = c .before .before .loop in let a = c .before .before .before .args in
-    (omega arith, simp length-set (l .inv .1), rw (l .inv .2, add-one) (paste-suc (a .reply .now) (a .at) (a .bytes .now) (l .i) 0 (omega arith) (omega arith)))
+returns-2 : tie.Need-returns-2
+returns-2 c =
+    let second = c .before .before in
+    let first = second .before .before .before .before in
+    let a = first .before .before .before .before .before .before .args in
+    let bytes = a .bytes .now in
+    let last = length bytes - 16 in
+    second .lay-sixteen2 .ensures
+    ∙ ap (λ (t : List ℕ). lay t (a .at + last) (part bytes last 16)) (first .lay-sixteen .ensures)
+    ∙ lay-last (a .reply .now) (a .at) bytes 16 16 (omega arith) (omega arith) (omega arith) (omega arith)
 
-same-length : tie.Need-same-length Inv-loop μ-loop
-same-length c = c .before .loop .inv .1
+lay-many-requires : tie.Need-lay-many-requires
+lay-many-requires c κs = search needs
 
-returns : tie.Need-returns Inv-loop μ-loop
-returns c = let l = c .before .loop in let a = c .before .before .args in
-    l .inv .2 ∙ copied (a .reply .now) (a .at) (a .bytes .now) (l .i) (omega arith)
+same-length-3 : tie.Need-same-length-3
+same-length-3 c = search needs
+
+returns-3 : tie.Need-returns-3
+returns-3 c = search needs
 
 pub lay-bytes-spec : {M : Type 1} → statement M
 lay-bytes-spec =
     tie.close
     (tie.spec
-    Inv-loop
-    μ-loop
-    loop-holds
-    shared-slice-read-reply
-    add-reply
-    slice-write-reply
-    add-i
-    loop-less
-    loop-again
+    lay-few-requires
     same-length
-    returns)
+    returns
+    sub-last
+    lay-sixteen-requires
+    add-lay-sixteen
+    lay-sixteen-requires-2
+    same-length-2
+    returns-2
+    lay-many-requires
+    same-length-3
+    returns-3)
