@@ -1,8 +1,9 @@
 // The columns of bindings: how a message has them, when they are fit, and the words that hold them (01, "Bindings").
 // Definitions, laws, types and constants; no function.
+#![tactic(auto)]
 
 // Where a column's value stands in a row: whether it is used, its place and its size.
-#[derive(Drop)]
+#[derive(Clone, Copy)]
 pub struct Value {
     pub used: u32,
     pub offset: u32,
@@ -10,14 +11,14 @@ pub struct Value {
 }
 
 // The same of a column's status or length, which have one size.
-#[derive(Drop)]
+#[derive(Clone, Copy)]
 pub struct Spot {
     pub used: u32,
     pub offset: u32,
 }
 
 // A column, in the order of its nine words in the session table.
-#[derive(Drop)]
+#[derive(Clone, Copy)]
 pub struct Column {
     pub property: u32,
     pub vtype: u32,
@@ -27,7 +28,7 @@ pub struct Column {
 }
 
 // A used part of a row.
-#[derive(Drop)]
+#[derive(Clone, Copy)]
 pub struct Span {
     pub place: u32,
     pub size: u32,
@@ -59,26 +60,26 @@ pub const LENGTH_USED: usize = 7;
 
 pub const LENGTH_OFFSET: usize = 8;
 
-#[derive(Drop)]
+#[derive(Clone, Copy)]
 pub enum SpotRead {
     At(Spot, usize),
     Malformed,
 }
 
-#[derive(Drop)]
+#[derive(Clone, Copy)]
 pub enum ValueRead {
     At(Value, usize),
     Malformed,
 }
 
-#[derive(Drop)]
+#[derive(Clone, Copy)]
 pub enum ColumnRead {
     At(Column, usize),
     Malformed,
 }
 
 // What a message holds, but for its columns.
-#[derive(Drop)]
+#[derive(Clone, Copy)]
 pub struct BindingsRead {
     pub malformed: bool,
     pub handle: u32,

@@ -1,4 +1,6 @@
 // The spans of all columns: that they lie in the row, and that none meets another.
+#![tactic(auto)]
+
 ghost use Rattle.std.specs.Prelude.{◌≡◌, [], ◌∷◌, ◌+◌, ◌≤◌, length};
 ghost use Rattle.bindings.specs.Column.{room_words, columns_most, columns_from, columns_of};
 ghost use Rattle.bindings.specs.Fit.{span_if, spans_of, apart, inside};

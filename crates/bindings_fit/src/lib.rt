@@ -1,4 +1,6 @@
 // Fitness of bindings: the count of columns, their types and sizes, no property twice, and the spans of a row.
+#![tactic(auto)]
+
 ghost use Rattle.std.specs.Prelude.{◌≡◌, ◌≤◌, length};
 ghost use Rattle.bindings.specs.Column.{columns_most, room_words, columns_of};
 ghost use Rattle.bindings.specs.Fit.{columns_fit, fit};

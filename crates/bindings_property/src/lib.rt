@@ -1,4 +1,6 @@
 // Whether the columns of bindings have types and sizes that fit their properties, and no property is bound twice.
+#![tactic(auto)]
+
 ghost use Rattle.std.specs.Prelude.{◌≡◌, ◌+◌, ◌≤◌, ◌<◌, length};
 ghost use Rattle.lists.specs.Every.{every, pairwise};
 ghost use Rattle.bindings.specs.Column.{columns_most, room_words, column_at, columns_from, columns_of};

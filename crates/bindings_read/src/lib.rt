@@ -1,4 +1,6 @@
 // Bindings in a message: a column, and the whole.
+#![tactic(auto)]
+
 ghost use Rattle.std.specs.Prelude.{◌≡◌, length};
 ghost use Rattle.bindings.specs.ColumnPlaces.{spot_on, value_on, column_on};
 ghost use Rattle.bindings.specs.Column.{room_words};

@@ -1,4 +1,6 @@
 // The columns of a cursor as records of nine words: clearing their room, keeping a column in it, and reading it.
+#![tactic(auto)]
+
 ghost use Rattle.std.specs.Prelude.{◌≡◌, length, ◌<◌};
 ghost use Rattle.bindings.specs.Column.{room_words, no_words, kept, columns_most, column_at};
 

@@ -1,4 +1,6 @@
 // The spans that a column uses in a row: where they stand, that they lie inside, and that they meet none.
+#![tactic(auto)]
+
 ghost use Rattle.std.specs.Prelude.{◌≡◌, [], ◌∷◌, ◌+◌};
 ghost use Rattle.wire.specs.Property.{status_size, length_size};
 ghost use Rattle.bindings.specs.Fit.{span_if, spans_of, apart, inside};

@@ -1,4 +1,6 @@
 // Connecting a seat, over a lent table of sessions and a lent catalogue.
+#![tactic(auto)]
+
 ghost use Rattle.std.specs.Prelude.{[]};
 ghost use Rattle.call.specs.Step.{sources_of, connect_step, Keeps};
 

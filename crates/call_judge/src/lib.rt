@@ -1,4 +1,6 @@
 // What is judged of every call: refusals 1 to 3.
+#![tactic(auto)]
+
 ghost use Rattle.std.specs.Prelude.{◌≡◌};
 ghost use Rattle.call.specs.JudgementTold.{Judgement};
 

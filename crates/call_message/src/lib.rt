@@ -1,4 +1,6 @@
 // A message from a seat and its reply, over a lent table of sessions and a lent catalogue.
+#![tactic(auto)]
+
 ghost use Rattle.std.specs.Prelude.{length};
 ghost use Rattle.call.specs.Step.{sources_of, message_step, Keeps};
 

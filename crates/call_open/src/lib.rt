@@ -1,4 +1,6 @@
 // Opening a query on a seat, over a lent table of sessions and a lent catalogue.
+#![tactic(auto)]
+
 ghost use Rattle.std.specs.Prelude.{[]};
 ghost use Rattle.call.specs.Step.{sources_of, open_step, Keeps};
 

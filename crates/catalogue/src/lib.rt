@@ -1,5 +1,6 @@
 // The option catalogue: its numbers, texts and rows, the parser, the writer, and the same by places (01, "The option
 // catalogue"). Definitions, laws, types and constants; no function.
+#![tactic(auto)]
 
 // The limits: of a key, of a language and a default, of the number that a text begins with, of the rows, and of all bytes.
 pub const KEY_MOST: u64 = 0xffff_ffff;
@@ -13,28 +14,28 @@ pub const ROWS_MOST: usize = 1024;
 pub const BYTES_MOST: usize = 0x10_0000;
 
 // A number with the place after it.
-#[derive(Drop)]
+#[derive(Clone, Copy)]
 pub enum Reading {
     Number(u64, usize),
     Malformed,
 }
 
 // A text: 0 for absent, else its count of units plus one; and the place of its first unit.
-#[derive(Drop)]
+#[derive(Clone, Copy)]
 pub struct Text {
     pub size: usize,
     pub start: usize,
 }
 
 // A text with the place after it.
-#[derive(Drop)]
+#[derive(Clone, Copy)]
 pub enum TextAt {
     TextTo(Text, usize),
     NoText,
 }
 
 // The fields of a row.
-#[derive(Drop)]
+#[derive(Clone, Copy)]
 pub struct Fields {
     pub key: u64,
     pub language: u64,
@@ -47,7 +48,7 @@ pub struct Fields {
 pub const FIELD_WORDS: usize = 7;
 
 // A row with the place after it.
-#[derive(Drop)]
+#[derive(Clone, Copy)]
 pub enum RowAt {
     RowTo(Fields, usize),
     NoRow,
@@ -55,11 +56,11 @@ pub enum RowAt {
 
 // A row's number: a type of its own, as a seat and a cursor's handle are (`table::Seat`, `table::Handle`), so that none can
 // stand for another.
-#[derive(Drop)]
+#[derive(Clone, Copy)]
 pub struct Row(pub u32);
 
 // The check's answer: refusal 3 or 0, and the row count (0 where it is refused).
-#[derive(Drop)]
+#[derive(Clone, Copy)]
 pub struct Checked {
     pub refusal: u32,
     pub rows: u32,

@@ -1,4 +1,6 @@
 // The check of the whole option catalogue, which notes the place of each row.
+#![tactic(auto)]
+
 ghost use Rattle.std.specs.Prelude.{◌≡◌, ◌≤◌, length};
 ghost use Rattle.catalogue.specs.Limits.{rows_most, bytes_most};
 ghost use Rattle.catalogue.specs.Plain.{catalogue, refusal_of};

@@ -1,4 +1,6 @@
 // The place after a text and after a row of the option catalogue, for the check, which keeps neither.
+#![tactic(auto)]
+
 ghost use Rattle.std.specs.Prelude.{◌≡◌, ◌+◌, ◌-◌, ◌^◌, ◌≤◌, length};
 ghost use Rattle.catalogue.specs.NumberPlaces.{reading_at};
 ghost use Rattle.catalogue.specs.CataloguePlaces.{text_at, row_at, reading_end, text_end, row_end, numbers_end};

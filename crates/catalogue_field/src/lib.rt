@@ -1,4 +1,6 @@
 // The number or the text of a row that a property names, from the words that hold the row's fields.
+#![tactic(auto)]
+
 ghost use Rattle.std.specs.Prelude.{◌≡◌};
 ghost use Rattle.wire.specs.Property.{of_numbers, of_texts};
 ghost use Rattle.catalogue.specs.CataloguePlaces.{fields_of};

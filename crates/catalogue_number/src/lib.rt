@@ -1,4 +1,6 @@
 // Numbers in groups of seven bits, least first, in their shortest form: the first group, and those after it.
+#![tactic(auto)]
+
 ghost use Rattle.std.specs.Prelude.{◌≡◌, ◌+◌, ◌<◌, length, drop};
 ghost use Rattle.catalogue.specs.Groups.{groups, further, within};
 ghost use Rattle.catalogue.specs.NumberPlaces.{placed, reading_at};

@@ -1,4 +1,6 @@
 // The fields of a row that is known to stand at a place.
+#![tactic(auto)]
+
 ghost use Rattle.std.specs.Prelude.{◌≡◌};
 ghost use Rattle.catalogue.specs.CataloguePlaces.{text_at, fields_seen, words_of};
 ghost use Rattle.catalogue.specs.NumberPlaces.{reading_at};

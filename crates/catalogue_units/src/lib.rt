@@ -1,4 +1,6 @@
 // The units of a text: where they stand, and whether none is zero, many of them in one step.
+#![tactic(auto)]
+
 ghost use Rattle.std.specs.Prelude.{◌≡◌, ◌+◌, ◌*◌, ◌^◌, ◌≤◌, ◌<◌, length};
 ghost use Rattle.lists.specs.Below.{both};
 ghost use Rattle.wire.specs.Word.{halves};

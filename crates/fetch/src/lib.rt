@@ -1,10 +1,11 @@
 // A request for rows, and what it does to its cursor: its body, refusals 9, 11, 12, 13 and 15, the reply, and the
 // position (01, "Rows", and the lines of those numbers in the refusal table). Definitions, laws and types; no
 // function.
+#![tactic(auto)]
 
 // What a request asks for: the cursor, how many rows of which width, the place of the first row, the reply's size, the client's
 // base, and the seek.
-#[derive(Drop)]
+#[derive(Clone, Copy)]
 pub struct Request {
     pub handle: u32,
     pub asked: u32,
@@ -19,7 +20,7 @@ pub struct Request {
 }
 
 // A request, or a body that refusal 9 names.
-#[derive(Drop)]
+#[derive(Clone, Copy)]
 pub enum Asking {
     Asked(Request),
     Malformed,

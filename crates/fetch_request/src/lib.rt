@@ -1,4 +1,6 @@
 // A request for rows: its body read to values, and judged beside its cursor.
+#![tactic(auto)]
+
 ghost use Rattle.std.specs.Prelude.{◌≡◌, ◌≤◌, length};
 ghost use Rattle.table.specs.Layout.{cursor_size};
 ghost use Rattle.table.specs.Seat.{cursor_held};

@@ -1,4 +1,6 @@
 // A request for rows on one cursor: refusals 11 to 13 and 15, the reply, and the position.
+#![tactic(auto)]
+
 ghost use Rattle.std.specs.Prelude.{◌≡◌, length};
 ghost use Rattle.catalogue.specs.Plain.{rows_in};
 ghost use Rattle.table.specs.Seat.{cursor_held};

@@ -1,5 +1,7 @@
 // The buffers of a file of recorded calls: a line is kept as its bytes come, the waiting output is written, and a
 // chunk is read.
+#![tactic(auto)]
+
 ghost use Rattle.std.specs.Prelude.{◌≡◌, ◌≤◌, length};
 ghost use Rattle.line.specs.CallReady.{CallReady};
 ghost use Rattle.line.specs.Kept.{Kept, kept_call, waits};

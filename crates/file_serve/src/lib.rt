@@ -1,4 +1,6 @@
 // A file of recorded calls is read in chunks, each call is served, and the answers are written a buffer at a time.
+#![tactic(auto)]
+
 ghost use Rattle.std.specs.Prelude.{length};
 ghost use Rattle.file.specs.FileReady.{BuffersReady};
 ghost use Rattle.file.specs.Served.{LineServed};

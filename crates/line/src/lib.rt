@@ -1,15 +1,16 @@
 // A line of a file of recorded calls: its words and numerals, the call that it is, and the line that answers it (01,
 // "What the base serves": the small program; README, "Replaying recorded calls"). Definitions, laws, types and
 // constants; no function.
+#![tactic(auto)]
 
-#[derive(Drop)]
+#[derive(Clone, Copy)]
 pub enum Spelled {
     Is(u32),
     Bad,
 }
 
 // Why a line is no call.
-#[derive(Drop)]
+#[derive(Clone, Copy)]
 pub enum Reason {
     UnknownCall,
     MissingWord,
@@ -21,7 +22,7 @@ pub enum Reason {
 }
 
 // What a line is. Bytes are told by the places of their hex digits in the line, from the first to the one after the last.
-#[derive(Drop)]
+#[derive(Clone, Copy)]
 pub enum Call {
     Nothing,
     Fault(Reason),
@@ -33,14 +34,14 @@ pub enum Call {
 }
 
 // A number word and the place after it.
-#[derive(Drop)]
+#[derive(Clone, Copy)]
 pub enum Number {
     Is(u32, usize),
     Fault(Reason),
 }
 
 // The places of the hex digits of a word, and the place after it.
-#[derive(Drop)]
+#[derive(Clone, Copy)]
 pub enum Hex {
     Is(usize, usize, usize),
     Fault(Reason),
@@ -56,7 +57,7 @@ pub const INDEX_MOST: u32 = 17199;
 
 // Where the program stands: the number of the present line, how many of its bytes are kept and whether there were more, the
 // length of the lent catalogue, and how much of the output waits to be written.
-#[derive(Drop)]
+#[derive(Clone, Copy)]
 pub struct Place {
     pub number: u64,
     pub kept: usize,

@@ -1,5 +1,7 @@
 // The lines of a calls file and of its answers: the bytes that a part of a line spells, and each kind of answer laid
 // in the output.
+#![tactic(auto)]
+
 ghost use Rattle.std.specs.Prelude.{◌++◌, ◌+◌, ◌*◌, ◌/◌, ◌≤◌, length, take, drop};
 ghost use Rattle.line.specs.DigitsTold.{Loaded};
 ghost use Rattle.line.specs.Text.{Put, decimal_text, hex_text, changed};

@@ -1,4 +1,6 @@
 // The lines of a calls file: the call that a line is.
+#![tactic(auto)]
+
 ghost use Rattle.std.specs.Prelude.{◌≡◌, ◌≤◌, length};
 ghost use Rattle.line.specs.Line.{number_word, hex_word, with_number, with_hex, whole, call_of};
 ghost use Rattle.line.specs.declared.Call.TheVariants.{Nothing};

@@ -1,5 +1,7 @@
 // The text of answers: words, numbers and hex digits, laid in a buffer one after the other. Each writer answers the place after
 // what it laid.
+#![tactic(auto)]
+
 ghost use Rattle.std.specs.Prelude.{◌≡◌, ◌+◌, ◌*◌, ◌≤◌, ◌<◌, length, take, drop, replicate};
 ghost use Rattle.line.specs.Text.{Put, decimal_text, glyph, hex_pairs, hex_text, fill_byte, changed};
 

@@ -1,4 +1,6 @@
 // The words of a line, its comment and its end; decimal numbers and hex digits.
+#![tactic(auto)]
+
 ghost use Rattle.std.specs.Prelude.{◌≡◌, ◌++◌, ◌/◌, ◌≤◌, length, drop};
 ghost use Rattle.line.specs.Digits.{decimal, told, hex_digit, is_dash, is_hex, pair_byte, hex_bytes};
 ghost use Rattle.line.specs.RunTold.{Passed};

@@ -1,4 +1,6 @@
 // Tests joined, and the test of a number against its limits.
+#![tactic(auto)]
+
 ghost use Rattle.std.specs.Prelude.{◌≡◌};
 ghost use Rattle.lists.specs.Below.{both, within};
 

@@ -1,4 +1,6 @@
 // A message on its seat: refusals 6 to 8, and then what its number asks for; rows are fetched here.
+#![tactic(auto)]
+
 ghost use Rattle.catalogue.specs.Plain.{rows_in};
 ghost use Rattle.table.specs.Seat.{seat_of};
 ghost use Rattle.message.specs.Message.{fetches, seat_message};

@@ -1,4 +1,6 @@
 // The messages that change a seat's cursors and send no rows: disconnect, free cursor and set bindings.
+#![tactic(auto)]
+
 ghost use Rattle.std.specs.Prelude.{◌≡◌, length};
 ghost use Rattle.std.proofs.Math.Option.{none};
 ghost use Rattle.table.specs.Layout.{seat_size, cursor_size, cursor_place, records_size};

@@ -1,4 +1,6 @@
 // What every message is judged by: its kind, refusals 6 to 8, and the reply of a refusal with its status.
+#![tactic(auto)]
+
 ghost use Rattle.std.specs.Prelude.{◌≡◌, ◌≤◌, ◌<◌, length};
 ghost use Rattle.refusal.specs.Refusal.{status_of, first_cause};
 ghost use Rattle.wire.specs.Header.{header_size, message_most};

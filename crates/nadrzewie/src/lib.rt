@@ -1,4 +1,6 @@
 // The C face: what the pipe host, written in C, calls. include/nadrzewie.h says what each argument must be.
+#![tactic(auto)]
+
 ghost use Rattle.std.specs.Prelude.{◌≡◌, [], length};
 ghost use Rattle.wire.specs.Checksum.{checksum_told};
 ghost use Rattle.catalogue.specs.Plain.{catalogue, refusal_of};
@@ -22,20 +24,20 @@ pub extern "C" fn nadrzewie_checksum(message: &[u8]) -> u64
 
 // A seat's number and a cursor's handle, as C passes them: two types, as in the server.
 #[repr(C)]
-#[derive(Drop)]
+#[derive(Clone, Copy)]
 pub struct Seat {
     pub number: u32,
 }
 
 #[repr(C)]
-#[derive(Drop)]
+#[derive(Clone, Copy)]
 pub struct Handle {
     pub number: u32,
 }
 
 // The answer to opening: the refusal number, else 0, and the handle, 0 where it is refused.
 #[repr(C)]
-#[derive(Drop)]
+#[derive(Clone, Copy)]
 pub struct Opened {
     pub refusal: u32,
     pub handle: Handle,
@@ -43,7 +45,7 @@ pub struct Opened {
 
 // The answer to a message: the refusal number, else 0, and the count of reply bytes.
 #[repr(C)]
-#[derive(Drop)]
+#[derive(Clone, Copy)]
 pub struct Answered {
     pub refusal: u32,
     pub count: u32,

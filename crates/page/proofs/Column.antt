@@ -13,7 +13,6 @@ use Rattle.wire.specs.Laid.{lay, lays, Laid}
 use Rattle.wire.proofs.Lays.{lays_join}
 use Rattle.catalogue.specs.CataloguePlaces.{units_part, text_of, row_of}
 use Rattle.catalogue.specs.CatalogueReady.{FieldsReady, UnitsReady}
-use Rattle.catalogue.proofs.Words.{text_inside}
 use Rattle.catalogue.specs.declared.Text.{Text}
 use Rattle.catalogue.specs.declared.Fields.{Fields}
 use Rattle.bindings.specs.Fit.{is_used}
@@ -23,7 +22,7 @@ use Rattle.page.specs.CellPlaces.{cell_bytes, spans_sent, room_at}
 use Rattle.page.specs.Cell.{status_of, length_of, kind_of, content_of, cell_of, text_type, offset_width, laid_if, block_of, block_span, block_room, field_spans, column_spans}
 use Rattle.page.specs.PageTold.{ColumnLaid}
 use Rattle.page.specs.Reads.{Held}
-use Rattle.page.proofs.Fields.{field_number, field_text, text_absent, text_present, text_size_lem, field_held, cell_same, laid_unused}
+use Rattle.page.proofs.Fields.{field_number, field_text, text_stands, text_absent, text_present, text_size_lem, field_held, cell_same, laid_unused}
 
 -- no block is laid, used or not, and none has room
 lays_nothing : (t : List ℕ) (flag : ℕ) → t ≡ lays t (pick (is_used flag) [] [])
@@ -35,12 +34,12 @@ room_nothing top flag = by_test (is_used flag) (λ q. rw q (omega arith)) (λ q.
 
 -- a text's block: not laid where the value is not used, and laid where it is
 pub block_unlaid : (t : List ℕ) (used top : ℕ) (x : Text) (g : Field) → (used ≡ 1 → ⊥)
-    → (top ≡ top - room_at used x) × (t ≡ lays t (pick (is_used used) (block_span (top - room_at used x) g) []))
-block_unlaid t used top x g n = (rw (ne_eqb used 1 n) (omega arith), laid_unused t used (block_span (top - room_at used x) g) n)
+    → (top ≡ top - room_at used x) × (t ≡ lays t (pick (is_used used) (block_span top g) []))
+block_unlaid t used top x g n = (rw (ne_eqb used 1 n) (omega arith), laid_unused t used (block_span top g) n)
 
 pub block_laid : (s t u : List ℕ) (used top : ℕ) (x : Text) → used ≡ 1 → 0 < x.size → u ≡ lay t (top - 2 * x.size) (block_of (halves (units_part s x)))
     → (top - 2 * x.size ≡ top - room_at used x)
-    × (u ≡ lays t (pick (is_used used) (block_span (top - room_at used x) (text_field (text_of s x))) []))
+    × (u ≡ lays t (pick (is_used used) (block_span (top - 2 * x.size) (text_field (text_of s x))) []))
 unfolding lays
 block_laid s t u used top x e h laid = (rw (eq-eqb used 1 e), rw (eq-eqb used 1 e, text_present s x (λ z. omega arith)) laid)
 
@@ -103,7 +102,7 @@ module _ (s : List ℕ) (f : Fields) (c : Column) (stand : FieldsReady s f) wher
     text_is = field_text s c.property f n ∙ ap (λ t. text_field (text_of s t)) (sym found)
 
     pub found_stands : UnitsReady s x
-    found_stands = rw found (text_inside s c.property f stand)
+    found_stands = rw found (text_stands s c.property f stand)
 
     pub found_room : room_at c.value.used x ≡ block_room c (row_of s f)
     found_room = rw (text_is, text_size_lem s x found_stands)
@@ -123,18 +122,14 @@ module _ (s : List ℕ) (f : Fields) (c : Column) (stand : FieldsReady s f) wher
     -- one that is present, its block laid before
     pub present_laid : (x.size ≡ 0 → ⊥) → (base row top place size : ℕ) → base + place < 256 ^ offset_width
         → place ≡ top - room_at c.value.used x → size ≡ 2 * x.size
-        → (t u w : List ℕ) → u ≡ lays t (pick (is_used c.value.used) (block_span (top - room_at c.value.used x) (text_field (text_of s x))) [])
+        → (t u w : List ℕ) → u ≡ lays t (pick (is_used c.value.used) (block_span place (text_field (text_of s x))) [])
         → w ≡ lays u (spans_sent row c text_type (base + place) 0 size) → ColumnLaid base row top c (row_of s f) place t w
     present_laid z base row top place size o ep es t u w block spans =
         record {
           placed = ep ∙ ap (λ (k : ℕ). top - k) found_room;
-          laid = field_laid (text_field (text_of s x)) text_is base row place o t u w (block ∙ at_place) (spans ∙ same);
+          laid = field_laid (text_field (text_of s x)) text_is base row place o t u w block (spans ∙ same);
         }
       where
-        at_place : lays t (pick (is_used c.value.used) (block_span (top - room_at c.value.used x) (text_field (text_of s x))) [])
-            ≡ lays t (pick (is_used c.value.used) (block_span place (text_field (text_of s x))) [])
-        at_place = ap (λ (k : ℕ). lays t (pick (is_used c.value.used) (block_span k (text_field (text_of s x))) [])) (sym ep)
-
         same : lays u (spans_sent row c text_type (base + place) 0 size)
             ≡ lays u
             (spans_sent row c (kind_of c.property (text_field (text_of s x))) (content_of (base + place) (text_field (text_of s x)))

@@ -67,6 +67,9 @@ field_text s property f h =
     no : (n : ℕ) → is_number n ≡ true → property ≡ n → ⊥
     no n k e = true≢false (sym k ∙ ap is_number (sym e) ∙ h)
 
+pub text_stands : (s : List ℕ) (property : ℕ) (f : Fields) → FieldsReady s f → UnitsReady s (of_texts property f.label f.note)
+text_stands s property f h = by_test (eqb property 5) (λ q. rw q h.label) (λ q. rw q h.note)
+
 -- a text by the size that the catalogue has
 pub text_absent : (s : List ℕ) (t : Text) → t.size ≡ 0 → text_field (text_of s t) ≡ absent
 text_absent s t e = rw (eq-eqb t.size 0 e)

@@ -1,9 +1,10 @@
 // The page of a rows reply: what a column of a row has to send, how many rows fit, and the bytes of the whole (01,
 // "Rows", from "The reply is B bytes" on). Definitions, laws, types and constants; no function.
+#![tactic(auto)]
 
 // What a reply is laid by: how many columns are bound in rows of which width, the reply's size, the place of its first row, the
 // client's base, and how many rows are asked for.
-#[derive(Drop)]
+#[derive(Clone, Copy)]
 pub struct Sheet {
     pub bound: usize,
     pub width: usize,
@@ -14,7 +15,7 @@ pub struct Sheet {
 }
 
 // How many of a row's columns send its label, and how many its note.
-#[derive(Drop)]
+#[derive(Clone, Copy)]
 pub struct Texts {
     pub labels: usize,
     pub notes: usize,

@@ -1,4 +1,6 @@
 // The block of a text in a reply: its units and one zero unit, ending where the block before it begins.
+#![tactic(auto)]
+
 ghost use Rattle.std.specs.Prelude.{◌≡◌, [], ◌+◌, ◌*◌, ◌≤◌, ◌<◌, ◌-◌, length};
 ghost use Rattle.lists.specs.Below.{pick};
 ghost use Rattle.wire.specs.Word.{halves};
@@ -29,7 +31,7 @@ pub fn lay_block(reply: &mut [u8], catalogue: &[u8], used: u32, text: Text, top:
     requires { UnitsReady catalogue.now text × (0 < text.size) × (room_at used text ≤ top)
         × (top ≤ length reply.old) }
     ensures { (result ≡ top - room_at used text) × (reply.new ≡ lays reply.old
-        (pick (is_used used) (block_span (top - room_at used text) (text_field (text_of catalogue.now text))) [])) }
+        (pick (is_used used) (block_span result (text_field (text_of catalogue.now text))) [])) }
 {
     if used != 1 {
         return top;

@@ -1,4 +1,6 @@
 // What a column has in its row of a reply: the cell, the status byte and the length, each where the column uses it.
+#![tactic(auto)]
+
 ghost use Rattle.std.specs.Prelude.{◌≡◌, [], ◌∷◌, ◌++◌, ◌+◌, ◌≤◌, ◌<◌, length};
 ghost use Rattle.wire.specs.Word.{le};
 ghost use Rattle.wire.specs.Property.{length_size};

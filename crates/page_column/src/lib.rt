@@ -1,4 +1,6 @@
 // A column of a row in a reply, by its kind: a number, a text that the row has not, or a text and its block.
+#![tactic(auto)]
+
 ghost use Rattle.std.specs.Prelude.{◌<◌, ◌≡◌, length};
 ghost use Rattle.catalogue.specs.CataloguePlaces.{row_of, fields_of};
 ghost use Rattle.bindings.specs.Column.{room_words, columns_most, column_at};

@@ -1,4 +1,6 @@
 // A row of a reply: its place in the catalogue, the room that it takes, and its bytes.
+#![tactic(auto)]
+
 ghost use Rattle.std.specs.Prelude.{◌≡◌, ◌+◌, ◌≤◌, length, get_or};
 ghost use Rattle.catalogue.specs.CataloguePlaces.{row_seen, fields_of};
 ghost use Rattle.catalogue.specs.CatalogueReady.{RowAtReady};

@@ -1,4 +1,6 @@
 // The reply to a request for rows: its bytes, with as many rows as fit, and its status.
+#![tactic(auto)]
+
 ghost use Rattle.std.specs.Prelude.{◌≡◌, ◌-◌, length};
 ghost use Rattle.page.specs.RowReady.{NumbersReady, RowsReady};
 ghost use Rattle.page.specs.Page.{status_for};
@@ -34,7 +36,7 @@ fn lay_rows(
         let at = page_row::place_of(places, Row(number));
         let fields = catalogue_row::fields_at(catalogue, at);
         let need = sheet.width + page_row::row_blocks(texts, &fields);
-        if top < row + need {
+        if top - row < need {
             return sent;
         }
         top = page_row::lay_row(reply, catalogue, at, &fields, records, sheet, row, top);

@@ -1,4 +1,6 @@
 // Opening a query on a seat: refusals 7, 14 and 16, and the cursor with the rows selected.
+#![tactic(auto)]
+
 ghost use Rattle.std.specs.Prelude.{◌≡◌, length, true};
 ghost use Rattle.std.proofs.Math.Option.{none, some};
 ghost use Rattle.table.specs.Layout.{seat_size, cursor_size, cursor_place};

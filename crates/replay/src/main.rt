@@ -1,4 +1,5 @@
 // replay CALLS-FILE: serves the recorded calls of a file, and writes the answers to standard output.
+#![tactic(auto)]
 
 fn usage() {
     io::write_all(

@@ -1,6 +1,7 @@
 // The session table: the places of its words, what a seat and a cursor are, and when a table is well formed (01,
 // "What the base serves", and under the refusal table, refusals 2 and 3). Definitions, laws, types and constants; no
 // function.
+#![tactic(auto)]
 
 // The seats, and the words of the table, of a seat and of a cursor (docs/TABLE.md).
 pub const SEATS: usize = 8;
@@ -41,8 +42,8 @@ pub const ROWS: usize = 50;
 pub const ROWS_SIZE: u32 = 1024;
 
 // A seat and a cursor's handle: types of their own, as a row's number is (`catalogue::Row`), so that none can stand for another.
-#[derive(Drop)]
+#[derive(Clone, Copy)]
 pub struct Seat(pub u32);
 
-#[derive(Drop)]
+#[derive(Clone, Copy)]
 pub struct Handle(pub u32);

@@ -1,4 +1,6 @@
 // The session table: the judgement of the words of a cursor's bindings, and of words not in use.
+#![tactic(auto)]
+
 ghost use Rattle.std.specs.Prelude.{◌≡◌, ◌^◌, ◌≤◌, ◌<◌, length};
 ghost use Rattle.bindings.specs.Column.{column_at, columns_of, columns_most};
 ghost use Rattle.lists.specs.Every.{every};

@@ -1,4 +1,6 @@
 // The session table: the judgement of a cursor's words.
+#![tactic(auto)]
+
 ghost use Rattle.std.specs.Prelude.{◌≡◌, ◌≤◌, length};
 ghost use Rattle.table.specs.Layout.{cursor_size};
 ghost use Rattle.table.specs.Well.{rising, selection_well, open_well, cursor_well};

@@ -1,4 +1,6 @@
 // Handles: where their cursors stand in a seat's words, and whether they are open.
+#![tactic(auto)]
+
 ghost use Rattle.std.specs.Prelude.{◌≡◌, length};
 ghost use Rattle.table.specs.Layout.{seat_size, cursor_place};
 ghost use Rattle.table.specs.Seat.{cursor_in, seat_in};

@@ -1,4 +1,6 @@
 // The session table: the judgement of the whole table.
+#![tactic(auto)]
+
 ghost use Rattle.std.specs.Prelude.{◌≡◌, true, length};
 ghost use Rattle.table.specs.Layout.{seat_size, cursor_size};
 ghost use Rattle.table.specs.Seat.{cursor_of, seat_of};

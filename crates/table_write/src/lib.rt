@@ -1,4 +1,6 @@
 // What a call writes into the words of a seat and of a cursor.
+#![tactic(auto)]
+
 ghost use Rattle.std.specs.Prelude.{◌≡◌, length, set};
 ghost use Rattle.std.proofs.Math.Option.{none, some};
 ghost use Rattle.table.specs.Layout.{cursor_size, open_at, position_at, count_at, columns_at, width_at, records_at, records_size};

@@ -1,5 +1,6 @@
 // Restriction trees: phrases, leaves, the tree, what it says of a row, and the rows that it selects (01, "Restriction
 // trees"). Definitions, laws, types and constants; no function.
+#![tactic(auto)]
 
 // The limits of a tree, and of a phrase.
 pub const BYTES_MOST: usize = 4096;
@@ -45,7 +46,7 @@ pub const VALUE_AT: usize = VALUE_DATA_AT + 2;
 pub const RELATION_SIZE: usize = VALUE_AT + 4;
 
 // A content leaf: its property, where its phrase's units begin and how many they are, and its method.
-#[derive(Drop)]
+#[derive(Clone, Copy)]
 pub struct Content {
     pub property: u32,
     pub start: usize,
@@ -54,7 +55,7 @@ pub struct Content {
 }
 
 // A property leaf.
-#[derive(Drop)]
+#[derive(Clone, Copy)]
 pub struct Relation {
     pub relop: u32,
     pub property: u32,
@@ -62,35 +63,35 @@ pub struct Relation {
 }
 
 // A leaf of either kind.
-#[derive(Drop)]
+#[derive(Clone, Copy)]
 pub enum Parts {
     OfContent(Content),
     OfRelation(Relation),
 }
 
 // A phrase on the wire: where its units begin, how many they are, and where the locale begins.
-#[derive(Drop)]
+#[derive(Clone, Copy)]
 pub enum PhraseAt {
     PhraseTo(usize, usize, usize),
     NoPhrase,
 }
 
 // A leaf, with the bytes that it takes.
-#[derive(Drop)]
+#[derive(Clone, Copy)]
 pub enum LeafAt {
     LeafTo(Parts, usize),
     NoLeaf,
 }
 
 // A node that was read: the bytes that it takes, and how many nodes may still come.
-#[derive(Drop)]
+#[derive(Clone, Copy)]
 pub enum NodeRead {
     Node(usize, u32),
     NoNode,
 }
 
 // Children that were read: the bytes that they take, and how many nodes may still come.
-#[derive(Drop)]
+#[derive(Clone, Copy)]
 pub enum ListRead {
     Children(usize, u32),
     NoChildren,

@@ -1,6 +1,8 @@
 // Whether a tree holds for a row. The tree was judged before, so that nothing of it is judged again for each row: the
 // words of its nodes are read where they stand. Each reader is handed the unread bytes from its node's first one on. Nodes
 // take multiples of four bytes, so that none needs padding before it, and padding in a leaf counts from its own first byte.
+#![tactic(auto)]
+
 ghost use Rattle.std.specs.Prelude.{◌≡◌, true, ◌+◌, ◌≤◌, length};
 ghost use Rattle.catalogue.specs.CataloguePlaces.{row_of, fields_of};
 ghost use Rattle.catalogue.specs.CatalogueReady.{FieldsReady};

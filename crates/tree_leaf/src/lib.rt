@@ -1,4 +1,6 @@
 // The leaves of a tree, read from its unread bytes.
+#![tactic(auto)]
+
 ghost use Rattle.std.specs.Prelude.{◌≡◌, ◌≤◌, ◌^◌, ◌<◌};
 ghost use Rattle.tree.specs.Parts.{phrase_at, content_at, relation_at, leaf_at};
 

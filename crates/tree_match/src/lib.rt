@@ -1,4 +1,6 @@
 // What a leaf says of a row: how the row's number relates to the leaf's, and whether the row's text holds the leaf's phrase.
+#![tactic(auto)]
+
 ghost use Rattle.std.specs.Prelude.{◌≡◌};
 ghost use Rattle.wire.specs.Word.{halves};
 ghost use Rattle.catalogue.specs.CataloguePlaces.{text_of};

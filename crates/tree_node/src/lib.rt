@@ -1,4 +1,6 @@
 // The nodes of a restriction tree: reading one, with its children, from bytes.
+#![tactic(auto)]
+
 ghost use Rattle.std.specs.Prelude.{◌≡◌, ◌+◌, ◌^◌, ◌≤◌, ◌<◌, length};
 ghost use Rattle.tree.specs.Reader.{leaf_read, branch_read, read_tree, read_list};
 ghost use Rattle.tree.specs.Kinds.{is_branch};

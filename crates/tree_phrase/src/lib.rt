@@ -1,4 +1,6 @@
 // The search for a phrase in a text. Both are the raw bytes of their units, two bytes a unit, low byte first.
+#![tactic(auto)]
+
 ghost use Rattle.std.specs.Prelude.{◌≡◌, ◌*◌, ◌≤◌, ◌<◌, length, get_or};
 ghost use Rattle.wire.specs.Word.{halves};
 ghost use Rattle.tree.specs.Phrase.{starts_word, ends_word, occurs};

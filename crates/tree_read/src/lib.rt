@@ -1,4 +1,6 @@
 // The restriction tree as a whole: whether bytes hold one and no more.
+#![tactic(auto)]
+
 ghost use Rattle.std.specs.Prelude.{◌≡◌};
 ghost use Rattle.tree.specs.Reader.{restriction, is_tree};
 

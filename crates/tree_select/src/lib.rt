@@ -1,4 +1,6 @@
 // The rows that a tree selects.
+#![tactic(auto)]
+
 ghost use Rattle.std.specs.Prelude.{◌≡◌, true, ◌≤◌, ◌<◌, length, get_or};
 ghost use Rattle.catalogue.specs.Limits.{rows_most};
 ghost use Rattle.catalogue.specs.CataloguePlaces.{row_seen};

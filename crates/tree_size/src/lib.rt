@@ -1,5 +1,7 @@
 // The bytes that a node of a tree takes. The tree was judged before, so that only what its size hangs on is read again: the
 // nodes of a list after the one that decides it are passed over by it.
+#![tactic(auto)]
+
 ghost use Rattle.std.specs.Prelude.{◌≡◌};
 ghost use Rattle.tree.specs.HoldReady.{LeafReady, NodeReady};
 ghost use Rattle.tree.specs.SizeTold.{leaf_size, NodeTakes, RestReady, RestEnds};

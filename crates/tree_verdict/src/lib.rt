@@ -1,4 +1,6 @@
 // What is said of a node of a tree: the bytes that it takes, and whether it holds.
+#![tactic(auto)]
+
 ghost use Rattle.std.specs.Prelude.{◌≡◌, ◌^◌, ◌<◌};
 ghost use Rattle.tree.specs.VerdictTold.{told, turned, decides};
 

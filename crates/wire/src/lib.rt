@@ -1,16 +1,17 @@
 // Bytes on the wire: little-endian words, the header of a message and its checksum, padding, properties with their
 // types and sizes, and bytes laid over a buffer (01, "Header and checksum", and of "The option catalogue", "Bindings"
 // and "Restriction trees" what properties and padding are). Definitions, laws, types and constants; no function.
+#![tactic(auto)]
 
 // A place after padding.
-#[derive(Drop)]
+#[derive(Clone, Copy)]
 pub enum PlaceRead {
     Place(usize),
     Malformed,
 }
 
 // A number with the place after it.
-#[derive(Drop)]
+#[derive(Clone, Copy)]
 pub enum NumberRead {
     Number(u32, usize),
     Malformed,

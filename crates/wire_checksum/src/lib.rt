@@ -1,4 +1,6 @@
 // The checksum of a message.
+#![tactic(auto)]
+
 ghost use Rattle.std.specs.Prelude.{◌≡◌, ◌≤◌, length};
 ghost use Rattle.wire.specs.Checksum.{body_sum, checksum, checksum_told};
 ghost use Rattle.wire.specs.Header.{header_size, message_most};

@@ -1,4 +1,6 @@
 // Bytes copied into a reply at a place.
+#![tactic(auto)]
+
 ghost use Rattle.std.specs.Prelude.{◌≡◌, ◌+◌, ◌≤◌, length};
 ghost use Rattle.lists.specs.Parts.{part};
 ghost use Rattle.wire.specs.Laid.{lay};

@@ -1,4 +1,6 @@
 // The fields of a message, each read at a place counted from its first byte: padding, numbers, flags and properties.
+#![tactic(auto)]
+
 ghost use Rattle.std.specs.Prelude.{◌≡◌, ◌+◌, ◌%◌, ◌≤◌, ◌<◌, leb};
 ghost use Rattle.wire.specs.FieldPlaces.{padded_on, number_on, flag_on, property_on};
 

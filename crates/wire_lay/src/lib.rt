@@ -1,4 +1,6 @@
 // Bytes laid over a reply at places: each writer changes the bytes it names and no others.
+#![tactic(auto)]
+
 ghost use Rattle.std.specs.Prelude.{◌≡◌, [], ◌∷◌, ◌+◌, ◌≤◌, length};
 ghost use Rattle.wire.specs.Laid.{lay, cleared};
 

@@ -1,4 +1,6 @@
 // Numbers, runs of four words and headers laid in a buffer, low byte first.
+#![tactic(auto)]
+
 ghost use Rattle.std.specs.Prelude.{◌≡◌, ◌+◌, ◌≤◌, length};
 ghost use Rattle.wire.specs.Word.{le};
 ghost use Rattle.wire.specs.Laid.{lay, four_words, header};

@@ -1,4 +1,6 @@
 // The property that the 24 bytes at a place name: their set identifier, their kind and their number.
+#![tactic(auto)]
+
 ghost use Rattle.std.specs.Prelude.{◌≡◌, ◌+◌, ◌≤◌, length};
 ghost use Rattle.wire.specs.PropertySpec.{set_size, spec_size, set_ours, named, property_at};
 

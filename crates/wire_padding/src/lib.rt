@@ -1,4 +1,6 @@
 // Padding: how many bytes stand before a place that is a multiple of a unit, and whether they are zero.
+#![tactic(auto)]
+
 ghost use Rattle.std.specs.Prelude.{◌≡◌, ◌+◌, ◌≤◌, ◌<◌, length};
 ghost use Rattle.wire.specs.Padding.{padding, zero_at};
 

@@ -1,4 +1,6 @@
 // The types and sizes of what a property is sent as.
+#![tactic(auto)]
+
 ghost use Rattle.std.specs.Prelude.{◌≡◌};
 ghost use Rattle.wire.specs.Property.{number_type, number_size, cell_size};
 

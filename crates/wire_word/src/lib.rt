@@ -1,4 +1,6 @@
 // Little-endian words of a byte slice.
+#![tactic(auto)]
+
 ghost use Rattle.std.specs.Prelude.{◌≡◌, ◌+◌, ◌*◌, ◌≤◌, ◌<◌, length, get_or};
 ghost use Rattle.wire.specs.Word.{number_at};
 

@@ -120,25 +120,8 @@ add-need c =
       entry.requires.0.narrow,
     )
 
-add-if3 : tie.Need-overflow-add-if3 invariant-loop decreases-loop
-add-if3 c =
-    let read = c.before.before.before in
-    let found = read.before in
-    let turn = found.before.before.before.before.before in
-    let counted = turn.before in
-    let entry = counted.before.before.before.before.before.before in
-    let a = entry.args in
-    omega (
-      arith,
-      c.before.row-blocks.ensures,
-      blocks_few counted.texts-sent.result (fields_of read.fields_at.result)
-          (sent_few a.sheet.bound a.records.now counted.texts-sent.result entry.requires.0.given counted.texts-sent.ensures)
-          (fields_small a.catalogue.now found.place_of.result (fields_of read.fields_at.result) (ap fields_of read.fields_at.ensures)),
-      entry.requires.0.narrow,
-      entry.requires.0.ends,
-      entry.well_formed_lem.0,
-      turn.loop.invariant,
-    )
+sub-if3 : tie.Need-overflow-sub-if3 invariant-loop decreases-loop
+sub-if3 c = c.before.before.before.before.before.before.before.before.before.loop.invariant.2
 
 same-length-2 : tie.Need-same-length-2 invariant-loop decreases-loop
 same-length-2 c = c.before.before.before.before.before.before.before.before.before.before.loop.invariant.0
@@ -200,6 +183,7 @@ loop-less c = falls _ _ c.before.before.before.before.before.before.before.befor
 loop-again : tie.Need-loop-preserved invariant-loop decreases-loop
 loop-again c =
     let laid = c.before.before.before in
+    let fits = laid.before.before.before.if3.false in
     let sized = laid.before.before.before.before.before in
     let read = sized.before.before in
     let found = read.before in
@@ -216,7 +200,6 @@ loop-again c =
     let at = found.place_of.result in
     let is = found.place_of.ensures in
     let need = a.sheet.width + sized.row-blocks.result in
-    let fits : need ≤ l.top - l.row = omega (arith, laid.before.before.before.if3.false) in
     let room = ap (λ (n : ℕ). a.sheet.width + n) {y = blocks columns (row_seen s at)}
     (sized.row-blocks.ensures ∙ blocks_seen s at (fields_of read.fields_at.result) turn.before.texts-sent.result columns (ap fields_of read.fields_at.ensures) turn.before.texts-sent.ensures) in
     let place = laid.lay-row.ensures.placed in
@@ -264,7 +247,7 @@ lay_rows_spec =
     fields-at-requires
     row-blocks-requires
     add-need
-    add-if3
+    sub-if3
     same-length-2
     returns-2
     lay-row-requires
