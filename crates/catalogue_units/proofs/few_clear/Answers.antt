@@ -1,7 +1,6 @@
 -- `catalogue_units::few_clear` meets its contract. The loop's invariant: none of the first i units is zero. Assumes nothing.
 use borrow.Author.Rules.{rules}
 use mathlib.Core.Path.{refl, sym, ◌∙◌}
-use mathlib.Core.Bool.{true}
 use Prim.Native.Nat.{◌/◌}
 use lib.ListN.{length}
 use Rattle.lists.proofs.Below.{every_start, every_next, every_broken}

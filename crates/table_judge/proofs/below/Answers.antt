@@ -2,13 +2,12 @@
 use borrow.Author.Rules.{rules}
 use mathlib.Core.Path.{sym, ap, ◌∙◌}
 use lib.ListN.{length}
-use mathlib.Core.Bool.{true}
 use Prim.Native.Nat.{◌<◌, ◌*◌}
 use native.Mathlib.Omega.{arith}
 use borrow.Author.Count.{below_more}
 use Rattle.lists.proofs.Below.{every_shown, every_broken}
 use Rattle.table.specs.Layout.{seat_size}
-use Rattle.table.specs.Well.{seat_well, seat_below, table_below}
+use Rattle.table.specs.Well.{seat_well, table_below}
 use Rattle.lists.proofs.Parts.{part_is}
 use Rattle.table.proofs.Tables.{table_length, table_seat, part_size}
 use Rattle.table_judge.proofs.below.Goals as goal

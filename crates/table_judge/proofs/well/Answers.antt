@@ -1,7 +1,6 @@
 -- `table_judge::well` meets its contract. The loop's invariant: the seats passed are well. Assumes nothing.
 use borrow.Author.Rules.{rules}
 use mathlib.Core.Path.{sym, ◌∙◌}
-use mathlib.Core.Bool.{true}
 use Prim.Native.Nat.{◌*◌}
 use native.Mathlib.Omega.{arith}
 use lib.ListN.{length}
@@ -9,7 +8,7 @@ use borrow.Author.Count.{below_more}
 use borrow.Author.Tests.{eq-eqb, ne_eqb}
 use Rattle.lists.proofs.Below.{both_stop, both_go, every_shown, every_broken}
 use Rattle.table.specs.Layout.{seat_size, table_size}
-use Rattle.table.specs.Well.{seat_well, table_well}
+use Rattle.table.specs.Well.{table_well}
 use Rattle.lists.proofs.Parts.{part_is}
 use Rattle.table_judge.proofs.well.Goals as goal
 

@@ -1,7 +1,6 @@
 -- The bytes passed are zero (the loop's invariant); one that is not shows that not each is. Assumes nothing.
 use borrow.Author.Rules.{rules}
 use mathlib.Core.Path.{sym}
-use mathlib.Core.Bool.{true}
 use Prim.Native.Nat.{◌+◌}
 use lib.Dec.{eqb}
 use lib.ListN.{get_or}
