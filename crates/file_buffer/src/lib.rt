@@ -8,6 +8,7 @@ ghost use Rattle.line.specs.Kept.{Kept, kept_call, waits};
 ghost use Rattle.line.specs.PlaceReady.{PlaceReady};
 
 use line::{Call, Place, Reason};
+use std::io::{Cursor, Eprint, Error, Print, Read, Write};
 
 // Keeps the bytes of a part of a line, as far as there is room.
 pub fn keep(line: &mut [u8], place: Place, part: &[u8]) -> Place
@@ -52,27 +53,50 @@ pub fn call_of(line: &[u8], cut: bool) -> Call
 }
 
 // Writes the waiting output where it is more than so much. Answers how much waits then.
-pub fn written(out: &[u8], used: usize, most: usize) -> usize
+pub fn written<R: Print + Eprint>(rt: &R, out: &[u8], used: usize, most: usize) -> usize
     requires { used ≤ length out.now }
     ensures { (result ≡ waits most used) × (result ≤ most) }
 {
     if used <= most {
         return used;
     }
-    if !io::write_all(1, &out[0..used]) {
-        os::fail(b"replay: standard output");
+    match rt.write_all(&out[0..used]) {
+        Ok(()) => {}
+        Err(error) => fail(rt, "replay: standard output", error),
     }
     0
 }
 
 // Reads once. Answers how many bytes came: none at the end, or where the read fails, which is then said.
-pub fn read_some(fd: i32, path: &[u8], chunk: &mut [u8]) -> usize
+pub fn read_some<R: Eprint, F: Read>(rt: &R, file: &mut F, path: &str, chunk: &mut [u8]) -> usize
     ensures { result ≤ length chunk.old }
 {
-    let got = libc::read(fd, chunk);
-    if got < 0 {
-        os::fail(path);
-        return 0;
+    match file.read(chunk) {
+        Ok(count) => count,
+        Err(error) => {
+            fail(rt, path, error);
+            0
+        }
     }
-    io::count(got, chunk)
+}
+
+// Writes a line to standard error: what failed, a colon, and the system's words for why. Nothing is left to do where that fails.
+pub fn fail<R: Eprint>(rt: &R, what: &str, error: Error) {
+    let mut text = Cursor::new([0u8; 256]);
+    let _ = write!(text, "{error}");
+    let count = text.position() as usize;
+    let bytes = text.into_inner();
+    let reason = words(&bytes[..count.min(bytes.len())]);
+    let _ = eprintln!(rt; "{what}: {reason}");
+}
+
+// What stands before the number that std puts after the system's words for an error.
+fn words(text: &[u8]) -> &str {
+    let Ok(all) = std::str::from_utf8(text) else {
+        return "";
+    };
+    match all.split_once(" (os error ") {
+        Some((before, _)) => before,
+        None => all,
+    }
 }

@@ -7,13 +7,15 @@ ghost use Rattle.file.specs.Served.{LineServed};
 ghost use Rattle.line.specs.PlaceReady.{PlaceReady};
 
 use line::Place;
+use std::io::{Eprint, Print, Read};
 
 mod answers; // answers.rt: one call, served, and its answer
 
 const FULL: usize = 65536;
 
 // Serves the line whose bytes are kept, and goes on to the next.
-fn serve(
+fn serve<R: Print + Eprint>(
+    rt: &R,
     line: &[u8],
     place: Place,
     table: &mut [u32],
@@ -40,7 +42,7 @@ fn serve(
         out,
         place.used,
     );
-    let used = file_buffer::written(out, answered, FULL);
+    let used = file_buffer::written(rt, out, answered, FULL);
     Place {
         number: std::num::wrapping_add_u64(number, 1),
         kept: 0,
@@ -51,7 +53,8 @@ fn serve(
 }
 
 // Serves the lines that end in a chunk, and keeps the bytes after the last of them.
-fn serve_chunk(
+fn serve_chunk<R: Print + Eprint>(
+    rt: &R,
     chunk: &[u8],
     place: Place,
     line: &mut [u8],
@@ -69,7 +72,7 @@ fn serve_chunk(
         let end = line_word::before_feed(chunk, at);
         here = file_buffer::keep(line, here, &chunk[at..end]);
         if end < chunk.len() {
-            here = serve(line, here, table, catalogue, out);
+            here = serve(rt, line, here, table, catalogue, out);
             at = end + 1;
         } else {
             at = end;
@@ -79,8 +82,8 @@ fn serve_chunk(
 }
 
 // Serves the recorded calls of an open file, and writes the answers to standard output. A proved loop has to end, and nothing
-// says that a file does: so the loop counts its turns down, from a number that no run uses up.
-pub fn replay(fd: i32, path: &[u8]) {
+// says that a file does: so the loop counts its turns, up to a number that no run reaches.
+pub fn replay<R: Print + Eprint, F: Read>(rt: &R, file: &mut F, path: &str) {
     let mut table = [0u32; table::TABLE_SIZE];
     let mut catalogue = [0u8; line::CATALOGUE_MOST];
     let mut line = [0u8; 131072];
@@ -93,19 +96,24 @@ pub fn replay(fd: i32, path: &[u8]) {
         catalogue: 0,
         used: 0,
     };
-    let mut turns = u64::MAX;
-    while turns > 0 {
-        let count = file_buffer::read_some(fd, path, &mut chunk);
+    for _ in 0..u64::MAX {
+        let count = file_buffer::read_some(rt, file, path, &mut chunk);
         if count == 0 {
-            turns = 0;
-        } else {
-            let part = &chunk[0..count];
-            place = serve_chunk(part, place, &mut line, &mut table, &mut catalogue, &mut out);
-            turns -= 1;
+            break;
         }
+        place = serve_chunk(
+            rt,
+            &chunk[0..count],
+            place,
+            &mut line,
+            &mut table,
+            &mut catalogue,
+            &mut out,
+        );
     }
     // a last line may lack its line feed; where it does not, this one ends a line without words, which is passed over
     let end = serve_chunk(
+        rt,
         b"\n",
         place,
         &mut line,
@@ -113,5 +121,5 @@ pub fn replay(fd: i32, path: &[u8]) {
         &mut catalogue,
         &mut out,
     );
-    file_buffer::written(&out, end.used, 0);
+    file_buffer::written(rt, &out, end.used, 0);
 }
