@@ -3,6 +3,7 @@
 #![tactic(auto)]
 
 ghost use Rattle.std.specs.Prelude.{◌≡◌, ◌≤◌, length};
+ghost use Rattle.std.specs.Io.{StartsWith};
 ghost use Rattle.line.specs.CallReady.{CallReady};
 ghost use Rattle.line.specs.Kept.{Kept, kept_call, waits};
 ghost use Rattle.line.specs.PlaceReady.{PlaceReady};
@@ -91,7 +92,9 @@ pub fn fail<R: Eprint>(rt: &R, what: &str, error: Error) {
 }
 
 // What stands before the number that std puts after the system's words for an error.
-fn words(text: &[u8]) -> &str {
+fn words(text: &[u8]) -> &str
+    ensures { StartsWith text.now result.now }
+{
     let Ok(all) = std::str::from_utf8(text) else {
         return "";
     };
