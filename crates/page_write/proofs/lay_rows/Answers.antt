@@ -4,21 +4,16 @@ use Rattle.page.proofs.Found.{fields_small}
 use Rattle.page.proofs.Counted.{blocks_seen, sent_few, blocks_few}
 use Rattle.page.proofs.RowsBound.{column_in, there_at}
 use Rattle.catalogue.specs.CataloguePlaces.{row_seen, fields_of}
-use Rattle.page.specs.Rows.{blocks, returned}
+use Rattle.page.specs.Rows.{blocks}
 use Rattle.page.specs.RowPlaces.{rows_at}
-use Rattle.page.specs.declared.Sheet.{Sheet}
 use Rattle.bindings.specs.Column.{column_at, columns_of}
 use lib.ListN.{drop}
 use native.Mathlib.Omega.{arith}
 use Prim.Native.Nat.{ℕ, ◌+◌, ◌-◌}
-use mathlib.Core.List.{List}
 use mathlib.Core.Path.{ap, ◌∙◌}
 use native.Mathlib.Numerals.{add-one}
 use Rattle.page_write.proofs.lay_rows.Goals as goal
-
-abbrev still_sent : Sheet → List ℕ → List ℕ → List ℕ → List ℕ → ℕ → ℕ → ℕ
-still_sent sheet records s places numbers sent room =
-    returned sheet.width (columns_of sheet.bound records) (sheet.asked - sent) room (rows_at s places (drop sent numbers))
+use Rattle.page_write.proofs.lay_rows.Invariants.{still_sent}
 
 pub returns-then-numbers-sent : goal.returns-then-numbers-sent
 returns-then-numbers-sent c =

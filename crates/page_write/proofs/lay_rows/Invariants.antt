@@ -14,7 +14,7 @@ abbrev in_all : Sheet → List ℕ → List ℕ → List ℕ → List ℕ → �
 in_all sheet records s places numbers =
     returned sheet.width (columns_of sheet.bound records) sheet.asked (sheet.size - sheet.from) (rows_at s places numbers)
 
-abbrev still_sent : Sheet → List ℕ → List ℕ → List ℕ → List ℕ → ℕ → ℕ → ℕ
+abbrev pub still_sent : Sheet → List ℕ → List ℕ → List ℕ → List ℕ → ℕ → ℕ → ℕ
 still_sent sheet records s places numbers sent room =
     returned sheet.width (columns_of sheet.bound records) (sheet.asked - sent) room (rows_at s places (drop sent numbers))
 

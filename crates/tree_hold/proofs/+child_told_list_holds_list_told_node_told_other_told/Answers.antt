@@ -31,7 +31,7 @@ pub list_holds-slice_bounds-child-count : goal.list_holds-slice_bounds-child-cou
 list_holds-slice_bounds-child-count t c = let a = c.args in let l = c.loop-more in omega (arith, next_inside a.levels a.kind a.unread.now (row_of a.catalogue.now (fields_of a.row.now)) c.requires.0 l.more l.at l.invariant (search rules))
 
 pub list_holds-slice_bounds-child-start : goal.list_holds-slice_bounds-child-start
-list_holds-slice_bounds-child-start t c = let a = c.args in let l = c.loop-more in omega (arith, next_inside a.levels a.kind a.unread.now (row_of a.catalogue.now (fields_of a.row.now)) c.requires.0 l.more l.at l.invariant (search rules))
+list_holds-slice_bounds-child-start t c = list_holds-slice_bounds-child-count t c
 
 pub list_holds-word-requires : goal.list_holds-word-requires
 list_holds-word-requires t c = let a = c.args in let l = c.loop-more in omega (arith, node_inside a.levels _ (next_found a.levels a.kind a.unread.now (row_of a.catalogue.now (fields_of a.row.now)) c.requires.0 l.more l.at l.invariant (search rules)))
@@ -67,7 +67,7 @@ pub list_told-slice_bounds-child-count : goal.list_told-slice_bounds-child-count
 list_told-slice_bounds-child-count t c = let a = c.args in let l = c.loop-left in omega (arith, next_inside a.levels a.kind a.unread.now (row_of a.catalogue.now (fields_of a.row.now)) c.requires.0 l.left l.at l.invariant (search rules))
 
 pub list_told-slice_bounds-child-start : goal.list_told-slice_bounds-child-start
-list_told-slice_bounds-child-start t c = let a = c.args in let l = c.loop-left in omega (arith, next_inside a.levels a.kind a.unread.now (row_of a.catalogue.now (fields_of a.row.now)) c.requires.0 l.left l.at l.invariant (search rules))
+list_told-slice_bounds-child-start t c = list_told-slice_bounds-child-count t c
 
 pub list_told-word-requires : goal.list_told-word-requires
 list_told-word-requires t c = let a = c.args in let l = c.loop-left in omega (arith, node_inside a.levels _ (next_found a.levels a.kind a.unread.now (row_of a.catalogue.now (fields_of a.row.now)) c.requires.0 l.left l.at l.invariant (search rules)))
@@ -127,7 +127,7 @@ pub node_told-slice_bounds-child-count : goal.node_told-slice_bounds-child-count
 node_told-slice_bounds-child-count t c = let a = c.args in let f = c.requires.0 in omega (arith, node_inside a.levels a.unread.now f)
 
 pub node_told-slice_bounds-child-start : goal.node_told-slice_bounds-child-start
-node_told-slice_bounds-child-start t c = let a = c.args in let f = c.requires.0 in omega (arith, node_inside a.levels a.unread.now f)
+node_told-slice_bounds-child-start t c = node_told-slice_bounds-child-count t c
 
 pub node_told-node_told-answer-requires : goal.node_told-node_told-answer-requires
 node_told-node_told-answer-requires t c = let a = c.args in let f = c.requires.0 in (omega (arith, c.decreases, node_levels a.levels f.nodes f.place a.unread.now f.node f.is), (not_found a.levels a.unread.now c.word-kind.result c.word-kind.ensures (sym c.is_branch.ensures ∙ c.if-is_branch.false) c.if-kind-eq-NOT.true f, c.requires.1))

@@ -21,8 +21,7 @@ list_end-slice_bounds-child-count t c = let a = c.args in let l = c.loop-left in
     omega (arith, rest_head a.unread.now a.levels a.count a.from c.requires l.left l.at l.invariant (search rules))
 
 pub list_end-slice_bounds-child-start : goal.list_end-slice_bounds-child-start
-list_end-slice_bounds-child-start t c = let a = c.args in let l = c.loop-left in
-    omega (arith, rest_head a.unread.now a.levels a.count a.from c.requires l.left l.at l.invariant (search rules))
+list_end-slice_bounds-child-start t c = list_end-slice_bounds-child-count t c
 
 pub list_end-node_size-size-requires : goal.list_end-node_size-size-requires
 list_end-node_size-size-requires t c = let a = c.args in let l = c.loop-left in
@@ -65,8 +64,7 @@ node_size-slice_bounds-child-count t c = let a = c.args in let f = c.requires in
     omega (arith, node_inside a.levels a.unread.now f)
 
 pub node_size-slice_bounds-child-start : goal.node_size-slice_bounds-child-start
-node_size-slice_bounds-child-start t c = let a = c.args in let f = c.requires in
-    omega (arith, node_inside a.levels a.unread.now f)
+node_size-slice_bounds-child-start t c = node_size-slice_bounds-child-count t c
 
 pub node_size-node_size-size-requires : goal.node_size-node_size-size-requires
 node_size-node_size-size-requires t c = let a = c.args in let f = c.requires in
