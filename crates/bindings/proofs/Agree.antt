@@ -3,7 +3,7 @@
 use mathlib.Core.Path.{◌≡◌, refl, sym, ap, ap₂, ◌∙◌}
 use mathlib.Core.Bool.{Bool, true, false}
 use mathlib.Core.List.{List, [], ◌∷◌}
-use mathlib.Core.Option.{Option, none, some}
+use Rattle.std.specs.Prelude.{Option, None, Some}
 use Prim.Native.Nat.{ℕ, zero, suc, ◌+◌, ◌≤◌, ◌<◌}
 use native.Mathlib.Nat.{add-zero, zero-add}
 use native.Mathlib.Numerals.{add-one}
@@ -15,31 +15,36 @@ use lib.Seq.{drop-drop, drop-cons, get_or-drop, get_or-take}
 use Rattle.lists.specs.Below.{pick, both, every_below}
 use Rattle.wire.specs.Word.{number, number_at}
 use Rattle.lists.proofs.Below.{by_test}
-use Rattle.bindings.specs.declared.Spot.{Spot}
-use Rattle.bindings.specs.declared.Value.{Value}
-use Rattle.bindings.specs.declared.Column.{Column}
-use Rattle.bindings.specs.declared.SpotRead.{SpotRead}
-use Rattle.bindings.specs.declared.ValueRead.{ValueRead}
-use Rattle.bindings.specs.declared.ColumnRead.{ColumnRead}
-use Rattle.wire.specs.FieldPlaces.{of_place, of_number, with_read, padded_on, number_on, flag_on, property_on}
+use Rattle.wire.specs.FieldPlaces.{padded_on, number_on, flag_on, property_on}
 use Rattle.wire.specs.Padding.{padding, zero_at}
 use Rattle.wire.specs.PropertySpec.{set_size, set_first, set_ours, numbered, kind_at, pr_spec_at, spec_size}
-use Rattle.bindings.specs.ColumnPlaces.{of_spot, of_value, of_column, spot_on, value_on, column_on}
+use Rattle.bindings.specs.ColumnPlaces.{spot_on, value_on, column_on}
 use Rattle.bindings.specs.Plain.{type_width, Parsed, bytes, numeral, zero_bytes, padded, flag, spot, value, property, column, columns, bindings, before}
 use Rattle.bindings.specs.BindingsPlaces.{columns_at, columns_on, bindings_on}
 use Rattle.lists.specs.Options.{and_then}
 
 -- what the parser gives is what the reader gives, with the bytes from the place after it, which lies in the message
 abbrev pub Agree : {A : Type 0} → List ℕ → Parsed A → Option (A × ℕ) → Type 0
-Agree m p none = p ≡ none
-Agree m p (some r) = (p ≡ some (r.0, r.1, drop r.1 m)) × (r.1 ≤ length m)
+Agree m p None = p ≡ None
+Agree m p (Some r) = (p ≡ Some (r.0, r.1, drop r.1 m)) × (r.1 ≤ length m)
+
+-- padding has no value of its own
+abbrev pub placed : Option ℕ → Option (Unit {0} × ℕ)
+placed None = None
+placed (Some next) = Some (tt, next)
 
 -- what follows agrees too, and so does a choice
-bind : {A B R : Type 0} (Goal : Option B → R → Type 0) (bad : R) → Goal none bad → (m : List ℕ) (p : Parsed A) (o : Option (A × ℕ)) → Agree m p o
-    → (g : A × ℕ × List ℕ → Option B) (f : A → ℕ → R) → ((a : A) (next : ℕ) → next ≤ length m → Goal (g (a, next, drop next m)) (f a next))
-    → Goal (and_then p g) (with_read o bad f)
-bind Goal bad z m p none e g f h = rw e z
-bind Goal bad z m p (some r) e g f h = rw e.0 (h r.0 r.1 e.1)
+bind : {A B C : Type 0} (Goal : Option B → Option C → Type 0) → Goal None None → (m : List ℕ) (p : Parsed A) (o : Option (A × ℕ)) → Agree m p o
+    → (g : A × ℕ × List ℕ → Option B) (f : A × ℕ → Option C) → ((a : A) (next : ℕ) → next ≤ length m → Goal (g (a, next, drop next m)) (f (a, next)))
+    → Goal (and_then p g) (and_then o f)
+bind Goal z m p None e g f h = rw e z
+bind Goal z m p (Some r) e g f h = rw e.0 (h r.0 r.1 e.1)
+
+bind_place : {B C : Type 0} (Goal : Option B → Option C → Type 0) → Goal None None → (m : List ℕ) (p : Parsed (Unit {0})) (o : Option ℕ) → Agree m p (placed o)
+    → (g : Unit {0} × ℕ × List ℕ → Option B) (f : ℕ → Option C) → ((next : ℕ) → next ≤ length m → Goal (g (tt, next, drop next m)) (f next))
+    → Goal (and_then p g) (and_then o f)
+bind_place Goal z m p None e g f h = rw e z
+bind_place Goal z m p (Some next) e g f h = rw e.0 (h next e.1)
 
 choose : {B R : Type 0} (Goal : Option B → R → Type 0) (b : Bool) (x y : Option B) (u v : R) → Goal x u → Goal y v → Goal (pick b x y) (pick b u v)
 choose Goal true x y u v h k = h
@@ -47,13 +52,13 @@ choose Goal false x y u v h k = k
 
 -- n bytes, if there are so many
 module _ (n : ℕ) (m : List ℕ) (at : ℕ) (h : at ≤ length m) where
-  bytes_there : at + n ≤ length m → bytes n at (drop at m) ≡ some (take n (drop at m), at + n, drop (at + n) m)
+  bytes_there : at + n ≤ length m → bytes n at (drop at m) ≡ Some (take n (drop at m), at + n, drop (at + n) m)
   bytes_there l = rw (le-leb n (length (drop at m)) (omega (arith, length-drop at m)), drop-drop n at m)
 
-  bytes_past : length m < at + n → bytes n at (drop at m) ≡ none
+  bytes_past : length m < at + n → bytes n at (drop at m) ≡ None
   bytes_past l = rw (lt-leb n (length (drop at m)) (omega (arith, length-drop at m)))
 
-  pub number_agrees : Agree m (numeral n at (drop at m)) (of_number (number_on n m at))
+  pub number_agrees : Agree m (numeral n at (drop at m)) (number_on n m at)
   unfolding number_on number_at
   number_agrees =
       by_test (leb (at + n) (length m))
@@ -62,20 +67,20 @@ module _ (n : ℕ) (m : List ℕ) (at : ℕ) (h : at ≤ length m) where
 
   -- nothing comes of them where nothing comes of what follows
   bytes_none : {B : Type 0} (g : List ℕ × ℕ × List ℕ → Option B)
-      → ((b : List ℕ) → at + n ≤ length m → g (b, at + n, drop (at + n) m) ≡ none) → and_then (bytes n at (drop at m)) g ≡ none
+      → ((b : List ℕ) → at + n ≤ length m → g (b, at + n, drop (at + n) m) ≡ None) → and_then (bytes n at (drop at m)) g ≡ None
   bytes_none g f =
       by_test (leb (at + n) (length m))
       (λ q. rw (bytes_there (leb-true (at + n) (length m) q)) (f (take n (drop at m)) (leb-true (at + n) (length m) q)))
       (λ q. rw (bytes_past (leb-false (at + n) (length m) q)))
 
   number_none : {B : Type 0} (g : ℕ × ℕ × List ℕ → Option B)
-      → ((v : ℕ) → at + n ≤ length m → g (v, at + n, drop (at + n) m) ≡ none) → and_then (numeral n at (drop at m)) g ≡ none
+      → ((v : ℕ) → at + n ≤ length m → g (v, at + n, drop (at + n) m) ≡ None) → and_then (numeral n at (drop at m)) g ≡ None
   number_none g f =
       by_test (leb (at + n) (length m))
       (λ q. rw (bytes_there (leb-true (at + n) (length m) q)) (f (number (take n (drop at m))) (leb-true (at + n) (length m) q)))
       (λ q. rw (bytes_past (leb-false (at + n) (length m) q)))
 
-pub flag_agrees : (m : List ℕ) (at : ℕ) → Agree m (flag at (drop at m)) (of_number (flag_on m at))
+pub flag_agrees : (m : List ℕ) (at : ℕ) → Agree m (flag at (drop at m)) (flag_on m at)
 unfolding flag flag_on
 flag_agrees m at =
     by_test (leb (at + 1) (length m))
@@ -106,7 +111,7 @@ unfolding every_below
 every_none f = refl
 
 -- zero bytes
-pick_swap : {A : Type 0} (b l e : Bool) (x : Option A) → pick b (pick l (pick e x none) none) none ≡ pick l (pick (both b e) x none) none
+pick_swap : {A : Type 0} (b l e : Bool) (x : Option A) → pick b (pick l (pick e x None) None) None ≡ pick l (pick (both b e) x None) None
 pick_swap true l e x = refl
 pick_swap false true e x = refl
 pick_swap false false e x = refl
@@ -115,19 +120,19 @@ leb_suc : (n k : ℕ) → leb (suc n) (suc k) ≡ leb n k
 leb_suc n k = by_test (leb n k) (λ q. le-leb (suc n) (suc k) (omega (arith, leb-true n k q)) ∙ sym q) (λ q. lt-leb (suc n) (suc k) (omega (arith, leb-false n k q)) ∙ sym q)
 
 zero_bytes_lem : (n at : ℕ) (s : List ℕ)
-    → zero_bytes n at s ≡ pick (leb n (length s)) (pick (every_below n (λ i. eqb (get_or s i 0) 0)) (some (tt, at + n, drop n s)) none) none
+    → zero_bytes n at s ≡ pick (leb n (length s)) (pick (every_below n (λ i. eqb (get_or s i 0) 0)) (Some (tt, at + n, drop n s)) None) None
 unfolding zero_bytes
 zero_bytes_lem zero at s = rw (le-leb 0 (length s) (omega arith), every_none (λ i. eqb (get_or s i 0) 0), add-zero)
 zero_bytes_lem (suc n) at [] = rw (lt-leb (suc n) 0 (omega arith))
 zero_bytes_lem (suc n) at (b ∷ s) =
-    ap (λ (o : Parsed (Unit {0})). pick (eqb b 0) o none) (zero_bytes_lem n (at + 1) s)
-    ∙ pick_swap (eqb b 0) (leb n (length s)) (every_below n (λ i. eqb (get_or s i 0) 0)) (some (tt, at + 1 + n, drop n s))
+    ap (λ (o : Parsed (Unit {0})). pick (eqb b 0) o None) (zero_bytes_lem n (at + 1) s)
+    ∙ pick_swap (eqb b 0) (leb n (length s)) (every_below n (λ i. eqb (get_or s i 0) 0)) (Some (tt, at + 1 + n, drop n s))
     ∙ rw (leb_suc n (length s), every_front n (λ i. eqb (get_or (b ∷ s) i 0) 0), one_more)
   where
     one_more : at + 1 + n ≡ at + suc n
     one_more = omega arith
 
-pub pad_agrees : (unit : ℕ) (m : List ℕ) (at : ℕ) → at ≤ length m → Agree m (padded unit at (drop at m)) (of_place (padded_on unit m at))
+pub pad_agrees : (unit : ℕ) (m : List ℕ) (at : ℕ) → at ≤ length m → Agree m (padded unit at (drop at m)) (placed (padded_on unit m at))
 unfolding padded_on zero_at
 pad_agrees unit m at h =
     rw (zero_bytes_lem (padding unit at) at (drop at m), same, drop-drop (padding unit at) at m)
@@ -144,29 +149,20 @@ pad_agrees unit m at h =
 
 -- the parts of a column, and the column
 module _ (m : List ℕ) where
-  abbrev Spots : Parsed Spot → SpotRead → Type 0
-  Spots p r = Agree m p (of_spot r)
-
-  abbrev Values : Parsed Value → ValueRead → Type 0
-  Values p r = Agree m p (of_value r)
-
-  abbrev Columns : Parsed Column → ColumnRead → Type 0
-  Columns p r = Agree m p (of_column r)
-
-  spot_agrees : (at : ℕ) → Spots (spot at (drop at m)) (spot_on m at)
+  spot_agrees : (at : ℕ) → Agree m (spot at (drop at m)) (spot_on m at)
   unfolding spot spot_on
   spot_agrees at =
-      bind Spots SpotRead.Malformed refl m (flag at (drop at m)) (of_number (flag_on m at)) (flag_agrees m at) _ _ (λ used next l.
-      choose Spots (eqb used 0) _ _ _ _ (refl, l)
-      (bind Spots SpotRead.Malformed refl m (padded 2 next (drop next m)) (of_place (padded_on 2 m next)) (pad_agrees 2 m next l) _ _ (λ _ place k.
-      bind Spots SpotRead.Malformed refl m (numeral 2 place (drop place m)) (of_number (number_on 2 m place)) (number_agrees 2 m place k) _ _ (λ offset after j. (refl, j)))))
+      bind (Agree m) refl m (flag at (drop at m)) (flag_on m at) (flag_agrees m at) _ _ (λ used next l.
+      choose (Agree m) (eqb used 0) _ _ _ _ (refl, l)
+      (bind_place (Agree m) refl m (padded 2 next (drop next m)) (padded_on 2 m next) (pad_agrees 2 m next l) _ _ (λ place k.
+      bind (Agree m) refl m (numeral 2 place (drop place m)) (number_on 2 m place) (number_agrees 2 m place k) _ _ (λ offset after j. (refl, j)))))
 
-  value_agrees : (at : ℕ) → Values (value at (drop at m)) (value_on m at)
+  value_agrees : (at : ℕ) → Agree m (value at (drop at m)) (value_on m at)
   unfolding value value_on
   value_agrees at =
-      bind Values ValueRead.Malformed refl m (spot at (drop at m)) (of_spot (spot_on m at)) (spot_agrees at) _ _ (λ s next l.
-      choose Values (eqb s.used 0) _ _ _ _ (refl, l)
-      (bind Values ValueRead.Malformed refl m (numeral 2 next (drop next m)) (of_number (number_on 2 m next)) (number_agrees 2 m next l) _ _ (λ size after j. (refl, j))))
+      bind (Agree m) refl m (spot at (drop at m)) (spot_on m at) (spot_agrees at) _ _ (λ s next l.
+      choose (Agree m) (eqb s.used 0) _ _ _ _ (refl, l)
+      (bind (Agree m) refl m (numeral 2 next (drop next m)) (number_on 2 m next) (number_agrees 2 m next l) _ _ (λ size after j. (refl, j))))
 
   -- the set identifier, as bytes taken and as bytes at a place
   set_agrees : (at : ℕ) → set_ours (take set_size (drop at m)) 0 ≡ set_ours m at
@@ -175,14 +171,14 @@ module _ (m : List ℕ) where
       every_like set_size (λ i. eqb (get_or (take set_size (drop at m)) (0 + i) 0) (set_first + i)) (λ i. eqb (get_or m (at + i) 0) (set_first + i)) (λ k l.
       rw (zero-add k, get_or-take set_size (drop at m) k 0 l, get_or-drop at m k 0))
 
-  pub property_agrees : (at : ℕ) → at ≤ length m → Agree m (property at (drop at m)) (of_number (property_on m at))
+  pub property_agrees : (at : ℕ) → at ≤ length m → Agree m (property at (drop at m)) (property_on m at)
   unfolding property property_on number_at
   property_agrees at h =
       by_test (leb (at + spec_size) (length m))
       (λ q.
       let l = leb-true (at + spec_size) (length m) q in
       rw (q, bytes_there set_size m at h (omega arith), bytes_there 4 m (at + set_size) (omega arith) (omega arith), third, bytes_there 4 m (at + pr_spec_at) (omega arith) (omega arith), last, set_agrees at)
-      (choose (λ p r. Agree m p (of_number r)) (eqb (number (take 4 (drop (at + kind_at) m))) numbered) _ _ _ _ (refl, l) refl))
+      (choose (Agree m) (eqb (number (take 4 (drop (at + kind_at) m))) numbered) _ _ _ _ (refl, l) refl))
       (λ q.
       let l = leb-false (at + spec_size) (length m) q in
       rw q
@@ -195,14 +191,14 @@ module _ (m : List ℕ) where
       last : at + pr_spec_at + 4 ≡ at + spec_size
       last = omega arith
 
-  column_agrees : (at : ℕ) → at ≤ length m → Columns (column at (drop at m)) (column_on m at)
+  column_agrees : (at : ℕ) → at ≤ length m → Agree m (column at (drop at m)) (column_on m at)
   unfolding column column_on
   column_agrees at h =
-      bind Columns ColumnRead.Malformed refl m (property at (drop at m)) (of_number (property_on m at)) (property_agrees at h) _ _ (λ p a i.
-      bind Columns ColumnRead.Malformed refl m (numeral type_width a (drop a m)) (of_number (number_on type_width m a)) (number_agrees type_width m a i) _ _ (λ vtype b j.
-      bind Columns ColumnRead.Malformed refl m (value b (drop b m)) (of_value (value_on m b)) (value_agrees b) _ _ (λ v c k.
-      bind Columns ColumnRead.Malformed refl m (spot c (drop c m)) (of_spot (spot_on m c)) (spot_agrees c) _ _ (λ status d n.
-      bind Columns ColumnRead.Malformed refl m (spot d (drop d m)) (of_spot (spot_on m d)) (spot_agrees d) _ _ (λ length e l. (refl, l))))))
+      bind (Agree m) refl m (property at (drop at m)) (property_on m at) (property_agrees at h) _ _ (λ p a i.
+      bind (Agree m) refl m (numeral type_width a (drop a m)) (number_on type_width m a) (number_agrees type_width m a i) _ _ (λ vtype b j.
+      bind (Agree m) refl m (value b (drop b m)) (value_on m b) (value_agrees b) _ _ (λ v c k.
+      bind (Agree m) refl m (spot c (drop c m)) (spot_on m c) (spot_agrees c) _ _ (λ status d n.
+      bind (Agree m) refl m (spot d (drop d m)) (spot_on m d) (spot_agrees d) _ _ (λ length e l. (refl, l))))))
 
   -- the columns, and nothing after them
   end_agrees : (at : ℕ) → at ≤ length m → columns 0 at (drop at m) ≡ columns_on 0 m at
@@ -216,8 +212,8 @@ module _ (m : List ℕ) where
   unfolding columns columns_on
   columns_agree zero at h = end_agrees at h
   columns_agree (suc n) at h =
-      bind ◌≡◌ none refl m (padded 4 at (drop at m)) (of_place (padded_on 4 m at)) (pad_agrees 4 m at h) _ _ (λ _ place l.
-      bind ◌≡◌ none refl m (column place (drop place m)) (of_column (column_on m place)) (column_agrees place l) _ _ (λ c next k.
+      bind_place ◌≡◌ refl m (padded 4 at (drop at m)) (padded_on 4 m at) (pad_agrees 4 m at h) _ _ (λ place l.
+      bind ◌≡◌ refl m (column place (drop place m)) (column_on m place) (column_agrees place l) _ _ (λ c next k.
       ap (before c) (columns_agree n next k)))
 
 -- the message

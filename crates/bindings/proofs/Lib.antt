@@ -1,6 +1,5 @@
 pub mod Columns
 pub mod Spans
-pub mod FitJudged
 pub mod Parts
 pub mod Sound
 pub mod Exact

@@ -2,14 +2,15 @@
 use mathlib.Core.Path.{◌≡◌, refl, sym, ap, ◌∙◌}
 use mathlib.Core.Bool.{Bool, true, false}
 use mathlib.Core.List.{List, [], ◌∷◌, ◌++◌, append-nil, append_assoc}
-use Prim.Native.Nat.{ℕ, ◌+◌, ◌*◌, ◌-◌, ◌≤◌, ◌<◌}
-use native.Mathlib.Nat.{add-zero}
-use native.Mathlib.Numerals.{add-one, add-two, add-three, add-four, add_five, add_six, add_seven, add_eight}
+use Rattle.std.specs.Prelude.{slice_index_or}
+use Rattle.std.specs.Simd.{first_chunks}
+use Prim.Native.Nat.{ℕ, zero, suc, ◌+◌, ◌*◌, ◌-◌, ◌≤◌, ◌<◌}
+use native.Mathlib.Nat.{add-zero, mul-suc}
 use native.Mathlib.Omega.{arith}
 use borrow.Author.Tests.{lt-ltb, le-ltb, ltb-true, ltb-false, leb-true, leb-false, lt-leb}
 use lib.Dec.{ltb, leb}
-use lib.ListN.{length, get_or, take, drop, set, length-append}
-use lib.Seq.{sets-eq, take_at, take-append-add, drop-append-add, get_or-append-add}
+use lib.ListN.{length, get_or, take, drop, length-append}
+use lib.Seq.{get_or-take, get_or-drop, take_at, take-append-add, drop-append-add, get_or-append-add}
 use Rattle.lists.specs.Below.{both, within}
 use Rattle.lists.proofs.Below.{by_test}
 use Rattle.bindings.specs.Column.{column_at, columns_from, columns_of, record_of, records_of, no_words, words_of, kept, kept_all, columns_most}
@@ -19,13 +20,21 @@ use Rattle.bindings.specs.declared.Column.{Column}
 use Rattle.bindings.proofs.Columns.{from_length}
 use Rattle.lists.proofs.Parts.{take_zeros, drop_zeros}
 
--- nine stores in a row
-pub nine_stores : (l : List ℕ) (i a₀ a₁ a₂ a₃ a₄ a₅ a₆ a₇ a₈ : ℕ) → i + 9 ≤ length l
-    → set (set (set (set (set (set (set (set (set l i a₀) (i + 1) a₁) (i + 2) a₂) (i + 3) a₃) (i + 4) a₄) (i + 5) a₅) (i + 6) a₆) (i + 7) a₇) (i + 8) a₈
-    ≡ take i l ++ (a₀ ∷ a₁ ∷ a₂ ∷ a₃ ∷ a₄ ∷ a₅ ∷ a₆ ∷ a₇ ∷ a₈ ∷ []) ++ drop (i + 9) l
-nine_stores l i a₀ a₁ a₂ a₃ a₄ a₅ a₆ a₇ a₈ h =
-    rw (add-one, add-two, add-three, add-four, add_five, add_six, add_seven, add_eight)
-    (sets-eq (a₀ ∷ a₁ ∷ a₂ ∷ a₃ ∷ a₄ ∷ a₅ ∷ a₆ ∷ a₇ ∷ a₈ ∷ []) l i h)
+-- a word of the k-th run of n words
+pub in_chunk : (n count k j : ℕ) (words : List ℕ) → k < count → j < n
+    → slice_index_or (slice_index_or (first_chunks n count words) k []) j 0 ≡ get_or words (n * k + j) 0
+in_chunk n zero k j words h i = absurd (omega arith)
+in_chunk n (suc c) zero j words h i = get_or-take n words j 0 i ∙ ap (λ (p : ℕ). get_or words p 0) first
+  where
+    first : j ≡ n * 0 + j
+    first = omega arith
+in_chunk n (suc c) (suc k) j words h i =
+    in_chunk n c k j (drop n words) (omega arith) i
+    ∙ get_or-drop n words (n * k + j) 0
+    ∙ ap (λ (p : ℕ). get_or words p 0) next
+  where
+    next : n + (n * k + j) ≡ n * suc k + j
+    next = omega (arith, mul-suc n k)
 
 -- past the room nothing is kept
 full : (s : List Column) (k : ℕ) (words : List ℕ) → 5 ≤ k → kept_all k words s ≡ words

@@ -4,7 +4,7 @@ use mathlib.Core.Path.{◌≡◌, refl, sym, ap, ap₂, subst, ◌∙◌}
 use mathlib.Core.Bool.{Bool, true}
 use mathlib.Core.List.{List, [], ◌∷◌, ◌++◌, append_assoc}
 use mathlib.Core.Logic.{◌↔◌, inl, inr, ⊎_elim}
-use mathlib.Core.Option.{Option, none, some}
+use Rattle.std.specs.Prelude.{Option, None, Some}
 use Prim.Native.Nat.{ℕ, zero, suc, ◌+◌, ◌≤◌, ◌<◌}
 use native.Mathlib.Nat.{add-zero, zero-add, add_assoc, pow-suc}
 use native.Mathlib.Omega.{arith}
@@ -34,19 +34,19 @@ use Rattle.bindings.specs.Plain.{Bindings, before, type_width, bytes, numeral, z
 use Rattle.bindings.specs.Writer.{Foreign, Free, followed, write_spot, write_value, write_property, write_column, write_columns, write_described, write, InBytes, SpotFits, ValueFits, ColumnFits, ForeignFits, Fits}
 
 -- What is written is read, whatever follows it.
-bytes_read : (n at : ℕ) (b rest : List ℕ) → length b ≡ n → bytes n at (b ++ rest) ≡ some (b, at + length b, rest)
+bytes_read : (n at : ℕ) (b rest : List ℕ) → length b ≡ n → bytes n at (b ++ rest) ≡ Some (b, at + length b, rest)
 bytes_read n at b rest e =
     rw (le-leb n (length (b ++ rest)) (omega (arith, length-append b rest)), take_at b rest n e, drop_at b rest n e, e)
 
-number_read : (n at v : ℕ) (rest : List ℕ) → InBytes n v → numeral n at (le n v ++ rest) ≡ some (v, at + length (le n v), rest)
+number_read : (n at v : ℕ) (rest : List ℕ) → InBytes n v → numeral n at (le n v ++ rest) ≡ Some (v, at + length (le n v), rest)
 number_read n at v rest h = rw (bytes_read n at (le n v) rest (le_length n v), number_le n v h)
 
-zeros_read : (n at : ℕ) (rest : List ℕ) → zero_bytes n at (zeros n ++ rest) ≡ some (tt, at + length (zeros n), rest)
+zeros_read : (n at : ℕ) (rest : List ℕ) → zero_bytes n at (zeros n ++ rest) ≡ Some (tt, at + length (zeros n), rest)
 unfolding zero_bytes
 zeros_read zero at rest = rw add-zero
-zeros_read (suc n) at rest = zeros_read n (at + 1) rest ∙ ap (λ (m : ℕ). some (tt, m, rest)) (omega arith)
+zeros_read (suc n) at rest = zeros_read n (at + 1) rest ∙ ap (λ (m : ℕ). Some (tt, m, rest)) (omega arith)
 
-spot_read : (at : ℕ) (p : Spot) (rest : List ℕ) → SpotFits p → spot at (write_spot at p ++ rest) ≡ some (p, at + length (write_spot at p), rest)
+spot_read : (at : ℕ) (p : Spot) (rest : List ℕ) → SpotFits p → spot at (write_spot at p ++ rest) ≡ Some (p, at + length (write_spot at p), rest)
 unfolding spot write_spot flag
 spot_read at p rest (inl u) = rw (u.0, u.1)
 spot_read at p rest (inr u) =
@@ -56,10 +56,10 @@ spot_read at p rest (inr u) =
       zeros_read (padding 2 (at + 1)) (at + 1) (le 2 p.offset ++ rest),
       number_read 2 (at + 1 + length (zeros (padding 2 (at + 1)))) p.offset rest u.1,
     )
-    (ap (λ (n : ℕ). some (record { used = 1; offset = p.offset }, n, rest))
+    (ap (λ (n : ℕ). Some (record { used = 1; offset = p.offset }, n, rest))
     (omega (arith, length-append (zeros (padding 2 (at + 1))) (le 2 p.offset))))
 
-value_read : (at : ℕ) (v : Value) (rest : List ℕ) → ValueFits v → value at (write_value at v ++ rest) ≡ some (v, at + length (write_value at v), rest)
+value_read : (at : ℕ) (v : Value) (rest : List ℕ) → ValueFits v → value at (write_value at v ++ rest) ≡ Some (v, at + length (write_value at v), rest)
 unfolding value write_value
 value_read at v rest (inl u) =
     let p : Spot = record { used = v.used; offset = v.offset } in
@@ -80,7 +80,7 @@ value_read at v rest (inr u) =
       ne_eqb v.used 0 (λ e. omega (arith, u.0)),
       number_read 2 (at + length (write_spot at p)) v.size rest u.2,
     )
-    (ap (λ (n : ℕ). some (v, n, rest)) (omega (arith, length-append (write_spot at p) (le 2 v.size))))
+    (ap (λ (n : ℕ). Some (v, n, rest)) (omega (arith, length-append (write_spot at p) (le 2 v.size))))
 
 -- our own set identifier
 abbrev ours : List ℕ
@@ -92,26 +92,26 @@ ours_ours = refl
 
 name_read : (at : ℕ) (set : List ℕ) (v : ℕ) (rest : List ℕ) → length set ≡ set_size → InBytes 4 v
     → property at ((set ++ (le 4 numbered ++ le 4 v)) ++ rest)
-    ≡ some (pick (set_ours set 0) v 0, at + length (set ++ (le 4 numbered ++ le 4 v)), rest)
+    ≡ Some (pick (set_ours set 0) v 0, at + length (set ++ (le 4 numbered ++ le 4 v)), rest)
 unfolding property
 name_read at set v rest e h =
     simp append_assoc
     (rw (bytes_read set_size at set _ e, number_read 4 (at + length set) numbered _ (omega arith), number_read 4 (at + length set + length (le 4 numbered)) v rest h)
-    (ap (λ (n : ℕ). some (pick (set_ours set 0) v 0, n, rest))
+    (ap (λ (n : ℕ). Some (pick (set_ours set 0) v 0, n, rest))
     (omega (arith, length-append set (le 4 numbered ++ le 4 v), length-append (le 4 numbered) (le 4 v)))))
 
 property_read : (at : ℕ) (other : Foreign) (p : ℕ) (rest : List ℕ) → ForeignFits other → InBytes 4 p
-    → property at (write_property other p ++ rest) ≡ some (p, at + length (write_property other p), rest)
+    → property at (write_property other p ++ rest) ≡ Some (p, at + length (write_property other p), rest)
 unfolding write_property
 property_read at other p rest fits h =
     by_test (eqb p 0)
     (λ q.
     rw (q, name_read at other.set other.number rest fits.set fits.number)
-    (ap (λ (v : ℕ). some (v, at + length (other.set ++ (le 4 numbered ++ le 4 other.number)), rest)) (fits.none ∙ sym (eqb-true p 0 q))))
-    (λ q. rw q (name_read at ours p rest refl h ∙ ap (λ (b : Bool). some (pick b p 0, at + length (spec p), rest)) ours_ours))
+    (ap (λ (v : ℕ). Some (v, at + length (other.set ++ (le 4 numbered ++ le 4 other.number)), rest)) (fits.none ∙ sym (eqb-true p 0 q))))
+    (λ q. rw q (name_read at ours p rest refl h ∙ ap (λ (b : Bool). Some (pick b p 0, at + length (spec p), rest)) ours_ours))
 
 column_read : (other : Foreign) (at : ℕ) (c : Column) (rest : List ℕ) → ForeignFits other → ColumnFits c
-    → column at (write_column other at c ++ rest) ≡ some (c, at + length (write_column other at c), rest)
+    → column at (write_column other at c ++ rest) ≡ Some (c, at + length (write_column other at c), rest)
 unfolding column write_column
 column_read other at c rest named fits =
     simp (append_assoc, length-append, ← add_assoc)
@@ -124,7 +124,7 @@ column_read other at c rest named fits =
     ))
 
 columns_read : (others : ℕ → Foreign) (at : ℕ) (s : List Column) → ((k : ℕ) → ForeignFits (others k)) → Each ColumnFits s
-    → columns (length s) at (write_columns others at s) ≡ some s
+    → columns (length s) at (write_columns others at s) ≡ Some s
 unfolding columns write_columns Each
 columns_read others at [] named fits = refl
 columns_read others at (c ∷ s) named fits =
@@ -135,7 +135,7 @@ columns_read others at (c ∷ s) named fits =
     )
 
 -- bindings that fit are read back, whatever the free bytes are
-pub reads_written : (free : Free) (b : Bindings) → Fits free b → bindings (write free b) ≡ some b
+pub reads_written : (free : Free) (b : Bindings) → Fits free b → bindings (write free b) ≡ Some b
 unfolding bindings
 reads_written free b fits =
     rw (
@@ -189,8 +189,8 @@ then_all : (at : ℕ) (s w : List ℕ) (next : ℕ) (rest : List ℕ) (f : ℕ �
 then_all at s w next rest f t e = t.made ∙ ap (λ (r : List ℕ). w ++ r) e ∙ ap (λ (n : ℕ). w ++ f n) t.after
 
 -- what a reader gives is such, and what follows it gave something: then this follows from what it gave
-reading : {A B P : Type 0} {o : Option A} {f : A → Option B} {b : B} {Such : A → Type 0} → ((a : A) → o ≡ some a → Such a) → and_then o f ≡ some b
-    → ((a : A) → Such a → f a ≡ some b → P) → P
+reading : {A B P : Type 0} {o : Option A} {f : A → Option B} {b : B} {Such : A → Type 0} → ((a : A) → o ≡ Some a → Such a) → and_then o f ≡ Some b
+    → ((a : A) → Such a → f a ≡ Some b → P) → P
 reading {o = o} {f = f} {b = b} back e k = let i = then_inv o f b e in k i.0 (back i.0 i.1) i.2
 
 -- what was read fits, and its bytes were taken
@@ -201,7 +201,7 @@ Back Fit written at s r = Fit r.0 × Taken at s (written at r.0) r.1 r.2
 abbrev BytesBack : ℕ → ℕ → List ℕ → List ℕ × ℕ × List ℕ → Type 0
 BytesBack n = Back (λ b. length b ≡ n) (λ _ b. b)
 
-bytes_back : (n at : ℕ) (s : List ℕ) → Bytes s → (r : List ℕ × ℕ × List ℕ) → bytes n at s ≡ some r → BytesBack n at s r
+bytes_back : (n at : ℕ) (s : List ℕ) → Bytes s → (r : List ℕ × ℕ × List ℕ) → bytes n at s ≡ Some r → BytesBack n at s r
 bytes_back n at s small r e =
     by_test (leb n (length s))
     (λ q.
@@ -223,7 +223,7 @@ number_bytes (suc n) (b ∷ s) small h =
 abbrev NumberBack : ℕ → ℕ → List ℕ → ℕ × ℕ × List ℕ → Type 0
 NumberBack n = Back (InBytes n) (λ _ v. le n v)
 
-number_back : (n at : ℕ) (s : List ℕ) → Bytes s → (r : ℕ × ℕ × List ℕ) → numeral n at s ≡ some r → NumberBack n at s r
+number_back : (n at : ℕ) (s : List ℕ) → Bytes s → (r : ℕ × ℕ × List ℕ) → numeral n at s ≡ Some r → NumberBack n at s r
 number_back n at s small r e =
     by_test (leb n (length s))
     (λ q.
@@ -238,7 +238,7 @@ number_back n at s small r e =
 abbrev ZerosBack : ℕ → ℕ → List ℕ → Unit {0} × ℕ × List ℕ → Type 0
 ZerosBack n at s r = Taken at s (zeros n) r.1 r.2
 
-zeros_back : (n at : ℕ) (s : List ℕ) → Bytes s → (r : Unit {0} × ℕ × List ℕ) → zero_bytes n at s ≡ some r → ZerosBack n at s r
+zeros_back : (n at : ℕ) (s : List ℕ) → Bytes s → (r : Unit {0} × ℕ × List ℕ) → zero_bytes n at s ≡ Some r → ZerosBack n at s r
 unfolding zero_bytes
 zeros_back zero at s small r e = subst (ZerosBack 0 at s) (some_is e) (taken at s [] at s small refl (omega arith))
 zeros_back (suc n) at [] small r e = absurd (none≢some e)
@@ -253,7 +253,7 @@ zeros_back (suc n) at (b ∷ s) small r e =
 abbrev FlagBack : ℕ → List ℕ → ℕ × ℕ × List ℕ → Type 0
 FlagBack = Back (λ used. used ≤ 1) (λ _ used. used ∷ [])
 
-flag_back : (at : ℕ) (s : List ℕ) → Bytes s → (r : ℕ × ℕ × List ℕ) → flag at s ≡ some r → FlagBack at s r
+flag_back : (at : ℕ) (s : List ℕ) → Bytes s → (r : ℕ × ℕ × List ℕ) → flag at s ≡ Some r → FlagBack at s r
 unfolding flag
 flag_back at [] small r e = absurd (none≢some e)
 flag_back at (b ∷ s) small r e =
@@ -265,7 +265,7 @@ flag_back at (b ∷ s) small r e =
 abbrev SpotBack : ℕ → List ℕ → Spot × ℕ × List ℕ → Type 0
 SpotBack = Back SpotFits write_spot
 
-spot_back : (at : ℕ) (s : List ℕ) → Bytes s → (r : Spot × ℕ × List ℕ) → spot at s ≡ some r → SpotBack at s r
+spot_back : (at : ℕ) (s : List ℕ) → Bytes s → (r : Spot × ℕ × List ℕ) → spot at s ≡ Some r → SpotBack at s r
 unfolding spot write_spot
 spot_back at s small r e =
     reading (flag_back at s small) e (λ (used, a, s₁) t q.
@@ -285,7 +285,7 @@ spot_back at s small r e =
 abbrev ValueBack : ℕ → List ℕ → Value × ℕ × List ℕ → Type 0
 ValueBack = Back ValueFits write_value
 
-value_back : (at : ℕ) (s : List ℕ) → Bytes s → (r : Value × ℕ × List ℕ) → value at s ≡ some r → ValueBack at s r
+value_back : (at : ℕ) (s : List ℕ) → Bytes s → (r : Value × ℕ × List ℕ) → value at s ≡ Some r → ValueBack at s r
 unfolding value write_value
 value_back at s small r e =
     reading (spot_back at s small) e (λ (p, a, s₁) t q.
@@ -339,7 +339,7 @@ property_named at s set v next rest e h t =
     ))))
     (λ q. rw q (omega arith, record { set = set; number = v }, record { set = e; number = h; none = rw q }, t))
 
-property_back : (at : ℕ) (s : List ℕ) → Bytes s → (r : ℕ × ℕ × List ℕ) → property at s ≡ some r → PropertyBack at s r
+property_back : (at : ℕ) (s : List ℕ) → Bytes s → (r : ℕ × ℕ × List ℕ) → property at s ≡ Some r → PropertyBack at s r
 unfolding property
 property_back at s small r e =
     reading (bytes_back set_size at s small) e (λ (set, a, s₁) t p.
@@ -357,7 +357,7 @@ property_back at s small r e =
 abbrev ColumnBack : ℕ → List ℕ → Column × ℕ × List ℕ → Type 0
 ColumnBack at s r = ColumnFits r.0 × (other : Foreign) × ForeignFits other × Taken at s (write_column other at r.0) r.1 r.2
 
-column_back : (at : ℕ) (s : List ℕ) → Bytes s → (r : Column × ℕ × List ℕ) → column at s ≡ some r → ColumnBack at s r
+column_back : (at : ℕ) (s : List ℕ) → Bytes s → (r : Column × ℕ × List ℕ) → column at s ≡ Some r → ColumnBack at s r
 unfolding column write_column
 column_back at s small r e =
     reading (property_back at s small) e (λ (p, a, s₁) t e₁.
@@ -389,16 +389,16 @@ on_top_fits : (other : Foreign) (others : ℕ → Foreign) → ForeignFits other
 on_top_fits other others h f zero = h
 on_top_fits other others h f (suc k) = f k
 
-before_inv : (c : Column) (o : Option (List Column)) (s : List Column) → before c o ≡ some s
-    → (others : List Column) × (o ≡ some others) × (c ∷ others ≡ s)
-before_inv c none s e = absurd (none≢some e)
-before_inv c (some others) s e = (others, refl, some_is e)
+before_inv : (c : Column) (o : Option (List Column)) (s : List Column) → before c o ≡ Some s
+    → (others : List Column) × (o ≡ Some others) × (c ∷ others ≡ s)
+before_inv c None s e = absurd (none≢some e)
+before_inv c (Some others) s e = (others, refl, some_is e)
 
 abbrev ColumnsBack : ℕ → ℕ → List ℕ → List Column → Type 0
 ColumnsBack n at s found =
     (length found ≡ n) × Each ColumnFits found × (others : ℕ → Foreign) × ((k : ℕ) → ForeignFits (others k)) × (s ≡ write_columns others at found)
 
-columns_back : (n at : ℕ) (s : List ℕ) → Bytes s → (found : List Column) → columns n at s ≡ some found → ColumnsBack n at s found
+columns_back : (n at : ℕ) (s : List ℕ) → Bytes s → (found : List Column) → columns n at s ≡ Some found → ColumnsBack n at s found
 unfolding columns write_columns Each
 columns_back zero at [] small found e = subst (ColumnsBack 0 at []) (some_is e) (refl, tt, (λ k. nobody), (λ k. nobody_fits), refl)
 columns_back zero at (b ∷ s) small found e = absurd (none≢some e)
@@ -464,7 +464,7 @@ message_made m header s₁ s₂ s₃ s₄ s₅ s₆ a₁ a₂ a₃ a₄ a₅ a�
         ∙ ap₂ (λ (n : ℕ) (t : List ℕ). le 4 n ++ t) (sym c.0) (c.4 ∙ ap (λ (a : ℕ). write_columns c.2 a found) first)
 
 -- a message that reads is what is written of the bindings that it reads to, which fit, with free bytes that fit
-pub written_reads : (m : List ℕ) (b : Bindings) → Bytes m → bindings m ≡ some b → (free : Free) × Fits free b × (m ≡ write free b)
+pub written_reads : (m : List ℕ) (b : Bindings) → Bytes m → bindings m ≡ Some b → (free : Free) × Fits free b × (m ≡ write free b)
 unfolding bindings
 written_reads m b small e =
     reading (bytes_back header_size 0 m small) e (λ (header, a₁, s₁) t₁ e₁.
@@ -487,15 +487,15 @@ pub free_unread : (free other : Free) (b : Bindings) → Fits free b → Fits ot
 free_unread free other b h k = reads_written free b h ∙ sym (reads_written other b k)
 
 -- refusal 9 of a body, by the writer alone: it is that of no bindings, whatever is free
-pub no_bindings_lem : (m : List ℕ) → Bytes m → (bindings m ≡ none) ↔ ((free : Free) (b : Bindings) → Fits free b → m ≡ write free b → ⊥)
+pub no_bindings_lem : (m : List ℕ) → Bytes m → (bindings m ≡ None) ↔ ((free : Free) (b : Bindings) → Fits free b → m ≡ write free b → ⊥)
 no_bindings_lem m small = (
   λ e free b fits w. none≢some (sym e ∙ ap bindings w ∙ reads_written free b fits),
   λ h. go (bindings m) refl h,
 )
   where
-    go : (o : Option Bindings) → bindings m ≡ o → ((free : Free) (b : Bindings) → Fits free b → m ≡ write free b → ⊥) → bindings m ≡ none
-    go none e h = e
-    go (some b) e h = let back = written_reads m b small e in absurd (h back.0 b back.1 back.2)
+    go : (o : Option Bindings) → bindings m ≡ o → ((free : Free) (b : Bindings) → Fits free b → m ≡ write free b → ⊥) → bindings m ≡ None
+    go None e h = e
+    go (Some b) e h = let back = written_reads m b small e in absurd (h back.0 b back.1 back.2)
 
 -- Of bindings that pass 12 every property is known, so that nothing but the header and _dummy is free.
 known_decides : (a b : Foreign) (p : ℕ) → known p ≡ true → write_property a p ≡ write_property b p

@@ -1,21 +1,19 @@
 -- The used spans of a row, part by part and column by column: an unused one counts as an empty one. Assumes nothing.
-use mathlib.Core.Path.{◌≡◌, refl, ap, ap₂, ◌∙◌}
+use mathlib.Core.Path.{◌≡◌, refl, sym, ap, ap₂, ◌∙◌}
 use mathlib.Core.Bool.{Bool, true, false}
 use mathlib.Core.List.{List, [], ◌∷◌, ◌++◌}
-use Prim.Native.Nat.{ℕ, ◌+◌, ◌-◌, ◌<◌}
+use Prim.Native.Nat.{ℕ, ◌+◌}
 use native.Mathlib.Omega.{arith}
-use borrow.Author.Tests.{le-leb, eq-eqb, ne_eqb}
+use borrow.Author.Tests.{le-leb}
 use lib.Dec.{leb}
 use Rattle.lists.specs.Below.{both, either}
-use Rattle.lists.proofs.Below.{by_test, both_assoc, both_last, both_go}
+use Rattle.lists.proofs.Below.{by_test, both_assoc, both_swap, both_last, both_go}
 use Rattle.lists.specs.Every.{every, across, pairwise}
 use Rattle.lists.proofs.Every.{every_append, across_append, pair_append}
 use Rattle.wire.specs.Property.{status_size, length_size}
-use Rattle.bindings.specs.Column.{column_at, columns_from}
 use Rattle.bindings.specs.Fit.{is_used, span_if, spans_of, inside, apart, flag_of, place_of, size_of, span_of}
 use Rattle.bindings.specs.declared.Column.{Column}
 use Rattle.bindings.specs.declared.Span.{Span}
-use Rattle.bindings.proofs.Columns.{from_more, from_none}
 
 abbrev pub none : Span
 none = record { place = 0; size = 0 }
@@ -53,24 +51,6 @@ pair_if c p s = by_test (is_used (flag_of c p)) (λ q. rw q) (λ q. rw (q, none_
 -- a span that may be used is one, or none, in front of the others
 if_append : (used place size : ℕ) (rest : List Span) → span_if used place size rest ≡ span_if used place size [] ++ rest
 if_append used place size rest = by_test (is_used used) (λ q. rw q) (λ q. rw q)
-
--- what is said of it, where it is used and where it is not
-module _ (used : ℕ) (a : Span) where
-  pub used_every : (test : Span → Bool) → used ≡ 1 → every test (span_if used a.place a.size []) ≡ test a
-  unfolding every
-  used_every test e = rw (eq-eqb used 1 e) (both_last (test a))
-
-  pub unused_every : (test : Span → Bool) → (used ≡ 1 → ⊥) → every test (span_if used a.place a.size []) ≡ true
-  unfolding every
-  unused_every test n = rw (ne_eqb used 1 n)
-
-  pub used_across : (t : List Span) → used ≡ 1 → across apart (span_if used a.place a.size []) t ≡ every (apart a) t
-  unfolding across
-  used_across t e = used_every (λ b. every (apart b) t) e
-
-  pub unused_across : (t : List Span) → (used ≡ 1 → ⊥) → across apart (span_if used a.place a.size []) t ≡ true
-  unfolding across
-  unused_across t n = unused_every (λ b. every (apart b) t) n
 
 -- the spans that a column may use
 abbrev pub value_if : Column → List Span
@@ -128,33 +108,41 @@ column_pairs c =
         ∙ both_go _ (if_pairs c.status.used c.status.offset status_size)
         ∙ rw (if_pairs c.length.used c.length.offset length_size) (both_last _)
 
-pub column_across : (c : Column) (t : List Span)
-    → across apart (spans_of (c ∷ [])) t ≡ both (across apart (value_if c) t) (both (across apart (status_if c) t) (across apart (length_if c) t))
-unfolding across
-column_across c t = column_every (λ a. every (apart a) t) c
-
 pub columns_pairs : (c : Column) (s : List Column)
     → pairwise apart (spans_of (c ∷ s))
     ≡ both (pairwise apart (spans_of (c ∷ []))) (both (across apart (spans_of (c ∷ [])) (spans_of s)) (pairwise apart (spans_of s)))
 columns_pairs c s = ap (pairwise apart) (of_columns c s) ∙ pair_append apart (spans_of (c ∷ [])) (spans_of s)
 
--- the columns that are left: the first of them, and the others; or none
-module _ (left k : ℕ) (words : List ℕ) (h : 0 < left) where
-  pub left_every : (test : Span → Bool)
-      → every test (spans_of (columns_from left k words))
-      ≡ both (every test (spans_of (column_at words k ∷ []))) (every test (spans_of (columns_from (left - 1) (k + 1) words)))
-  left_every test =
-      ap (λ (s : List Column). every test (spans_of s)) (from_more left k words h)
-      ∙ columns_every test (column_at words k) (columns_from (left - 1) (k + 1) words)
+-- so a test of each span is one of each column, and a test of any two spans one of each column and of any two columns
+pub spans_every : (test : Span → Bool) (s : List Column) → every test (spans_of s) ≡ every (λ c. every test (spans_of (c ∷ []))) s
+unfolding every spans_of
+spans_every test [] = refl
+spans_every test (c ∷ s) = columns_every test c s ∙ ap (both (every test (spans_of (c ∷ [])))) (spans_every test s)
 
-  pub left_pairs : pairwise apart (spans_of (columns_from left k words))
-      ≡ both (pairwise apart (spans_of (column_at words k ∷ [])))
-      (both (across apart (spans_of (column_at words k ∷ [])) (spans_of (columns_from (left - 1) (k + 1) words)))
-      (pairwise apart (spans_of (columns_from (left - 1) (k + 1) words))))
-  left_pairs =
-      ap (λ (s : List Column). pairwise apart (spans_of s)) (from_more left k words h)
-      ∙ columns_pairs (column_at words k) (columns_from (left - 1) (k + 1) words)
+abbrev pub own : Column → Bool
+own c = pairwise apart (spans_of (c ∷ []))
 
-pub left_none : (left k : ℕ) (words : List ℕ) → left ≡ 0 → spans_of (columns_from left k words) ≡ []
-unfolding spans_of
-left_none left k words e = ap spans_of (from_none left k words e)
+abbrev pub clear : Column → Column → Bool
+clear c d = across apart (spans_of (c ∷ [])) (spans_of (d ∷ []))
+
+across_none : (a : List Span) → across apart a [] ≡ true
+unfolding across every
+across_none [] = refl
+across_none (b ∷ a) = across_none a
+
+column_clears : (c : Column) (s : List Column) → across apart (spans_of (c ∷ [])) (spans_of s) ≡ every (clear c) s
+unfolding every spans_of
+column_clears c [] = across_none (spans_of (c ∷ []))
+column_clears c (d ∷ s) =
+    ap (across apart (spans_of (c ∷ []))) (of_columns d s)
+    ∙ across_append apart (spans_of (c ∷ [])) (spans_of (d ∷ [])) (spans_of s)
+    ∙ ap (both (clear c d)) (column_clears c s)
+
+pub spans_pairs : (s : List Column) → pairwise apart (spans_of s) ≡ both (every own s) (pairwise clear s)
+unfolding every pairwise spans_of
+spans_pairs [] = refl
+spans_pairs (c ∷ s) =
+    columns_pairs c s
+    ∙ ap (both (own c)) (ap₂ both (column_clears c s) (spans_pairs s))
+    ∙ sym (both_assoc (own c) (every (clear c) s) (both (every own s) (pairwise clear s)))
+    ∙ both_swap (own c) (every (clear c) s) (every own s) (pairwise clear s)

@@ -2,7 +2,7 @@
 use mathlib.Core.Path.{◌≡◌, refl}
 use mathlib.Core.Bool.{true, false}
 use mathlib.Core.List.{List, [], ◌∷◌, ◌++◌}
-use mathlib.Core.Option.{none, some}
+use Rattle.std.specs.Prelude.{None, Some}
 use Prim.Native.Nat.{ℕ}
 use Rattle.lists.specs.Below.{every_below}
 use Rattle.wire.specs.Word.{number, le}
@@ -15,7 +15,7 @@ use Rattle.wire.specs.PropertySpec.{set_ours, spec}
 use Rattle.wire.specs.Examples.{words_of}
 use Rattle.bindings.specs.Examples.{case_columns, case_bindings}
 
-pub whole_case : (bindings case_bindings ≡ some (record { handle = 1; width = 24; columns = case_columns })) × (fit 24 case_columns ≡ true)
+pub whole_case : (bindings case_bindings ≡ Some (record { handle = 1; width = 24; columns = case_columns })) × (fit 24 case_columns ≡ true)
 unfolding bindings columns column property value spot flag zero_bytes set_ours every_below number le fit columns_fit every pairwise spans_of
 whole_case = (refl, refl)
 
@@ -53,8 +53,8 @@ key =
       length = record { used = 0; offset = 0 };
     }
 
-pub two_columns : (bindings (two 76 (0 ∷ 0 ∷ 0 ∷ [])) ≡ some (record { handle = 1; width = 24; columns = status_label ∷ key ∷ [] }))
-    × (bindings (two 76 (0 ∷ 0 ∷ 1 ∷ [])) ≡ none) × (bindings (two 75 (0 ∷ 0 ∷ [])) ≡ none)
+pub two_columns : (bindings (two 76 (0 ∷ 0 ∷ 0 ∷ [])) ≡ Some (record { handle = 1; width = 24; columns = status_label ∷ key ∷ [] }))
+    × (bindings (two 76 (0 ∷ 0 ∷ 1 ∷ [])) ≡ None) × (bindings (two 75 (0 ∷ 0 ∷ [])) ≡ None)
     × (fit 24 (status_label ∷ key ∷ []) ≡ true) × (fit 16 (status_label ∷ key ∷ []) ≡ false) × (fit 24 (key ∷ key ∷ []) ≡ false)
 unfolding two status_label key bindings columns column property value spot flag zero_bytes set_ours every_below number le fit columns_fit every pairwise spans_of
 two_columns = (refl, refl, refl, refl, refl, refl)

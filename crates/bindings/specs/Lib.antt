@@ -7,3 +7,4 @@ pub mod Examples
 pub mod ColumnPlaces
 pub mod BindingsPlaces
 pub mod BindingsTold
+pub mod EachTold

@@ -60,28 +60,9 @@ pub const LENGTH_USED: usize = 7;
 
 pub const LENGTH_OFFSET: usize = 8;
 
-#[derive(Clone, Copy)]
-pub enum SpotRead {
-    At(Spot, usize),
-    Malformed,
-}
-
-#[derive(Clone, Copy)]
-pub enum ValueRead {
-    At(Value, usize),
-    Malformed,
-}
-
-#[derive(Clone, Copy)]
-pub enum ColumnRead {
-    At(Column, usize),
-    Malformed,
-}
-
 // What a message holds, but for its columns.
 #[derive(Clone, Copy)]
 pub struct BindingsRead {
-    pub malformed: bool,
     pub handle: u32,
     pub width: u32,
     pub count: u32,

@@ -5,33 +5,35 @@ use mathlib.Core.List.{List}
 use Prim.Native.Nat.{ℕ, ◌≤◌, ◌<◌}
 use native.Mathlib.Omega.{arith}
 use borrow.Author.Tests.{lt-ltb, le-ltb, ltb-false, eq-eqb, ne_eqb}
-use lib.Dec.{ltb, eqb}
+use lib.Dec.{ltb}
 use lib.ListN.{length-map}
-use Rattle.lists.specs.Below.{pick}
 use Rattle.lists.proofs.Below.{by_test}
-use Rattle.catalogue.specs.Plain.{catalogue}
-use Rattle.catalogue.specs.CataloguePlaces.{checked, places, noted, row_seen}
+use Rattle.catalogue.specs.Plain.{catalogue, refusal_of}
+use Rattle.catalogue.specs.CataloguePlaces.{checked, row_count, places, noted, row_seen}
 use Rattle.catalogue.proofs.Agree.{accepted, catalogue_agrees, rows_counted}
 use Rattle.table.specs.Layout.{seats}
 use Rattle.table.specs.Well.{table_well, table_below}
+use Rattle.std.specs.Prelude.{Ok, Err}
+use Rattle.refusal.specs.declared.Refusal.{Refusal}
 use Rattle.refusal.specs.Refusal.{first_cause}
-use Rattle.refusal.proofs.First.{Numbered}
+use Rattle.refusal.specs.Numbers.{refusal_number}
+use Rattle.refusal.proofs.Numbers.{number_back, refused_number, given_number, given_is}
+use Rattle.refusal.proofs.First.{Numbered, first_under}
 use Rattle.call.specs.Step.{Sources, sources_of, rows_hold, judging}
 use Rattle.call.specs.JudgementTold.{judged_by, judged_with, placed_with, Judgement}
-use Rattle.call.specs.declared.Judged.{Judged}
 
 pub judging_numbered : (src : Sources) (t : List ℕ) (seat : ℕ) → Numbered (judging src t seat)
 judging_numbered src t seat = ((λ e. omega arith), ((λ e. omega arith), ((λ e. omega arith), tt)))
 
 -- the rows of a catalogue that is accepted, and of one that is not
-pub rows_hold_lem : (s t : List ℕ) → (checked s).refusal ≡ 0 → rows_hold (catalogue s) t ≡ table_below (checked s).rows t
+pub rows_hold_lem : (s t : List ℕ) → refusal_of (checked s) ≡ 0 → rows_hold (catalogue s) t ≡ table_below (row_count (checked s)) t
 rows_hold_lem s t e =
-    let a : accepted s ≡ true = eq-eqb (checked s).refusal 0 e in
+    let a : accepted s ≡ true = eq-eqb (refusal_of (checked s)) 0 e in
     rw (catalogue_agrees s, a) (ap (λ (n : ℕ). table_below n t) (length-map (places s) (row_seen s) ∙ rows_counted s a))
 
-pub no_rows : (s t : List ℕ) → ((checked s).refusal ≡ 0 → ⊥) → rows_hold (catalogue s) t ≡ false
+pub no_rows : (s t : List ℕ) → (refusal_of (checked s) ≡ 0 → ⊥) → rows_hold (catalogue s) t ≡ false
 no_rows s t e =
-    let a : accepted s ≡ false = ne_eqb (checked s).refusal 0 e in
+    let a : accepted s ≡ false = ne_eqb (refusal_of (checked s)) 0 e in
     rw (catalogue_agrees s, a)
 
 -- the ways that the judgement can go
@@ -72,17 +74,27 @@ passes src t seat e =
     (λ w. absurd (let z : 2 ≡ 0 = rw (q, w) at e in omega arith)))
 
 -- the judgement by the refusal that was found
-pub judged_is : (t s : List ℕ) (seat n rows : ℕ) (held found : List ℕ) → judged_by t s seat ≡ n → rows ≡ pick (eqb n 0) (checked s).rows 0 → found ≡ placed_with n s held
-    → Judgement t s seat (record { refusal = n; rows = rows }) held found
-judged_is t s seat n rows held found e r f = record { answered = rw (e, r); placed = rw e f }
+pub judged_refused : (t s : List ℕ) (seat : ℕ) (n : Refusal) (held found : List ℕ) → judged_by t s seat ≡ refusal_number n → found ≡ placed_with (refusal_number n) s held
+    → Judgement t s seat (Err n) held found
+judged_refused t s seat n held found e f = record { answered = rw e (sym (number_back n (row_count (checked s)))); placed = rw e f }
+
+pub judged_passed : (t s : List ℕ) (seat rows : ℕ) (held found : List ℕ) → judged_by t s seat ≡ 0 → rows ≡ row_count (checked s) → found ≡ noted s held
+    → Judgement t s seat (Ok rows) held found
+judged_passed t s seat rows held found e r f = record { answered = rw e (ap Ok r); placed = rw e f }
 
 -- what a judgement says: its refusal, and where there is none, the row count and the place of each row
-module _ {t s held found : List ℕ} {seat : ℕ} {r : Judged} (j : Judgement t s seat r held found) where
-  pub refused_by_lem : r.refusal ≡ judged_by t s seat
-  refused_by_lem = ap (λ (k : Judged). k.refusal) j.answered
+judged_small : (t s : List ℕ) (seat : ℕ) → judged_by t s seat < 17
+judged_small t s seat = first_under 17 (judging (sources_of s) t seat) (omega arith) (omega arith, (omega arith, (omega arith, tt)))
 
-  pub rows_told : r.refusal ≡ 0 → r.rows ≡ (checked s).rows
-  rows_told z = ap (λ (k : Judged). k.rows) j.answered ∙ ap (λ (n : ℕ). (judged_with n s).rows) (sym refused_by_lem ∙ z)
+pub refused_by_lem : {t s held found : List ℕ} {seat : ℕ} {n : Refusal} → Judgement t s seat (Err n) held found → judged_by t s seat ≡ refusal_number n
+refused_by_lem {t = t} {s = s} {seat = seat} {n = n} j = refused_number (judged_by t s seat) (row_count (checked s)) n (judged_small t s seat) j.answered
 
-  pub places_told : r.refusal ≡ 0 → found ≡ noted s held
-  places_told z = j.placed ∙ ap (λ (n : ℕ). placed_with n s held) (sym refused_by_lem ∙ z)
+module _ {t s held found : List ℕ} {seat rows : ℕ} (j : Judgement t s seat (Ok rows) held found) where
+  pub passed_by : judged_by t s seat ≡ 0
+  passed_by = given_number (judged_by t s seat) (row_count (checked s)) rows (judged_small t s seat) j.answered
+
+  pub rows_told : rows ≡ row_count (checked s)
+  rows_told = given_is rows (row_count (checked s)) (j.answered ∙ ap (λ (n : ℕ). judged_with n s) passed_by)
+
+  pub places_told : found ≡ noted s held
+  places_told = j.placed ∙ ap (λ (n : ℕ). placed_with n s held) passed_by

@@ -2,13 +2,16 @@
 use mathlib.Core.Path.{◌≡◌, sym, ap, ◌∙◌}
 use mathlib.Core.Bool.{true, false}
 use mathlib.Core.List.{List, [], ◌∷◌}
-use mathlib.Core.Option.{some}
+use Rattle.std.specs.Prelude.{Some, Ok, Err}
+use Rattle.refusal.specs.declared.Refusal.{Refusal}
+use Rattle.refusal.specs.declared.Refusal.TheVariants.{Connection}
+use Rattle.refusal.specs.Numbers.{refusal_number}
+use Rattle.refusal.proofs.Numbers.{number_least}
 use Prim.Native.Nat.{ℕ}
-use native.Mathlib.Omega.{arith}
 use borrow.Author.Tests.{ne_eqb}
 use Rattle.table.specs.Seat.{fresh}
 use Rattle.refusal.specs.Refusal.{first_cause}
-use Rattle.call.specs.Step.{Sources, Outcome, Keeps, quiet, judging, seat_held, is_connected, seated, connect_causes, connect_step}
+use Rattle.call.specs.Step.{Sources, Outcome, Keeps, ConnectKeeps, quiet, judging, seat_held, is_connected, seated, connect_causes, connect_step}
 use Rattle.refusal.proofs.First.{first_stop, first_go}
 use Rattle.call.proofs.Causes.{judging_numbered}
 
@@ -24,23 +27,23 @@ quietly o n words e =
     }
 
 module _ (src : Sources) (t : List ℕ) (seat version : ℕ) where
-  by_cause : (n : ℕ) → first_cause (connect_causes src t seat) ≡ n → (n ≡ 0 → ⊥) → Keeps (connect_step src t seat version) n 0 0 t [] []
+  by_cause : (n : Refusal) → first_cause (connect_causes src t seat) ≡ refusal_number n → ConnectKeeps (connect_step src t seat version) (Err n) t
   unfolding connect_step
-  by_cause n e z = quietly _ n t (rw (e, ne_eqb n 0 z))
+  by_cause n e = quietly _ (refusal_number n) t (rw (e, ne_eqb (refusal_number n) 0 (number_least n)))
 
-  pub connect_judged : (n : ℕ) → first_cause (judging src t seat) ≡ n → (n ≡ 0 → ⊥) → Keeps (connect_step src t seat version) n 0 0 t [] []
-  connect_judged n e z = by_cause n (first_stop (judging src t seat) ((7, is_connected (seat_held t seat)) ∷ []) n e z) z
+  pub connect_judged : (n : Refusal) → first_cause (judging src t seat) ≡ refusal_number n → ConnectKeeps (connect_step src t seat version) (Err n) t
+  connect_judged n e = by_cause n (first_stop (judging src t seat) ((7, is_connected (seat_held t seat)) ∷ []) (refusal_number n) e (number_least n))
 
-  pub connect_taken : first_cause (judging src t seat) ≡ 0 → is_connected (seat_held t seat) ≡ true → Keeps (connect_step src t seat version) 7 0 0 t [] []
+  pub connect_taken : first_cause (judging src t seat) ≡ 0 → is_connected (seat_held t seat) ≡ true
+      → ConnectKeeps (connect_step src t seat version) (Err Connection) t
   unfolding first_cause
   connect_taken e c =
-      by_cause 7
+      by_cause Connection
       (first_go (judging src t seat) ((7, is_connected (seat_held t seat)) ∷ []) (judging_numbered src t seat) e ∙ rw c)
-      (λ z. omega arith)
 
   pub connect_done : first_cause (judging src t seat) ≡ 0 → is_connected (seat_held t seat) ≡ false
-      → Keeps (connect_step src t seat version) 0 0 0 (seated t seat (some (fresh version))) [] []
+      → ConnectKeeps (connect_step src t seat version) (Ok tt) (seated t seat (Some (fresh version)))
   unfolding first_cause connect_step
   connect_done e c =
-      quietly _ 0 (seated t seat (some (fresh version)))
+      quietly _ 0 (seated t seat (Some (fresh version)))
       (rw (first_go (judging src t seat) ((7, is_connected (seat_held t seat)) ∷ []) (judging_numbered src t seat) e, c))

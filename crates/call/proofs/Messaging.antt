@@ -2,6 +2,11 @@
 use mathlib.Core.Path.{◌≡◌, refl, ◌∙◌}
 use mathlib.Core.Bool.{false}
 use mathlib.Core.List.{List, ◌++◌}
+use Rattle.std.specs.Prelude.{Result, Err}
+use Rattle.refusal.specs.declared.Refusal.{Refusal}
+use Rattle.refusal.specs.declared.Refusal.TheVariants.{BufferShort, MessageSize}
+use Rattle.refusal.specs.Numbers.{refusal_number}
+use Rattle.refusal.proofs.Numbers.{number_least}
 use Prim.Native.Nat.{ℕ, ◌+◌, ◌-◌, ◌≤◌, ◌<◌}
 use native.Mathlib.Omega.{arith}
 use borrow.Author.Tests.{ne_eqb, lt-ltb, le-ltb, le-leb, lt-leb}
@@ -13,42 +18,40 @@ use Rattle.catalogue.specs.Plain.{rows_of}
 use Rattle.refusal.specs.Refusal.{first_cause}
 use Rattle.message.specs.Message.{seat_message}
 use Rattle.message.specs.AnswerTold.{Answers}
-use Rattle.message.specs.declared.Answered.{Answered}
-use Rattle.refusal.proofs.First.{first_stop, first_go}
-use Rattle.call.specs.Step.{Sources, Keeps, judging, seat_held, sizing, message_step}
+use Rattle.refusal.proofs.First.{first_stop, first_go, first_under}
+use Rattle.call.specs.Step.{Sources, MessageKeeps, judging, seat_held, sizing, message_step}
 use Rattle.call.proofs.Causes.{judging_numbered}
 use Rattle.call.proofs.Seating.{seated_is}
 
 module _ (src : Sources) (t : List ℕ) (seat : ℕ) (m : List ℕ) (entry : List ℕ) where
-  by_cause : (n : ℕ) → first_cause (judging src t seat ++ sizing m (length entry)) ≡ n → (n ≡ 0 → ⊥)
-      → Keeps (message_step src t seat m (length entry)) n 0 0 t entry entry
+  -- a refusal up to 5 writes nothing
+  by_cause : (n : Refusal) → first_cause (judging src t seat ++ sizing m (length entry)) ≡ refusal_number n → refusal_number n < 6
+      → MessageKeeps (message_step src t seat m (length entry)) (Err n) t entry entry
   unfolding message_step
-  by_cause n e z = rw (e, ne_eqb n 0 z) record { refused = refl; given = refl; counted = refl; kept = refl; written = refl }
+  by_cause n e l =
+      rw (e, ne_eqb (refusal_number n) 0 (number_least n))
+      record { refused = refl; given = refl; counted = rw (lt-leb 6 (refusal_number n) l); kept = refl; written = refl }
 
-  pub message_judged : (n : ℕ) → first_cause (judging src t seat) ≡ n → (n ≡ 0 → ⊥) → Keeps (message_step src t seat m (length entry)) n 0 0 t entry entry
-  message_judged n e z = by_cause n (first_stop (judging src t seat) (sizing m (length entry)) n e z) z
+  pub message_judged : (n : Refusal) → first_cause (judging src t seat) ≡ refusal_number n → MessageKeeps (message_step src t seat m (length entry)) (Err n) t entry entry
+  message_judged n e =
+      by_cause n (first_stop (judging src t seat) (sizing m (length entry)) (refusal_number n) e (number_least n))
+      (omega (arith, e, first_under 4 (judging src t seat) (omega arith) (omega arith, (omega arith, (omega arith, tt)))))
 
   module _ (e : first_cause (judging src t seat) ≡ 0) where
     sizes : first_cause (judging src t seat ++ sizing m (length entry)) ≡ first_cause (sizing m (length entry))
     sizes = first_go (judging src t seat) (sizing m (length entry)) (judging_numbered src t seat) e
 
-    pub room_refused : length entry < 16384 → Keeps (message_step src t seat m (length entry)) 4 0 0 t entry entry
+    pub room_refused : length entry < 16384 → MessageKeeps (message_step src t seat m (length entry)) (Err BufferShort) t entry entry
     unfolding first_cause
-    room_refused h = by_cause 4 (sizes ∙ rw (lt-ltb (length entry) 16384 h)) (λ z. omega arith)
+    room_refused h = by_cause BufferShort (sizes ∙ rw (lt-ltb (length entry) 16384 h)) (omega arith)
 
-    size_refused : 16384 ≤ length entry → message_sized m ≡ false → Keeps (message_step src t seat m (length entry)) 5 0 0 t entry entry
+    pub size_refused : 16384 ≤ length entry → message_sized m ≡ false → MessageKeeps (message_step src t seat m (length entry)) (Err MessageSize) t entry entry
     unfolding first_cause
-    size_refused r h = by_cause 5 (sizes ∙ rw (le-ltb (length entry) 16384 r, h)) (λ z. omega arith)
+    size_refused r h = by_cause MessageSize (sizes ∙ rw (le-ltb (length entry) 16384 r, h)) (omega arith)
 
-    pub short_refused : 16384 ≤ length entry → length m < 16 → Keeps (message_step src t seat m (length entry)) 5 0 0 t entry entry
-    short_refused r h = size_refused r (rw (lt-leb 16 (length m) h))
-
-    pub long_refused : 16384 ≤ length entry → 16 ≤ length m → 16384 < length m → Keeps (message_step src t seat m (length entry)) 5 0 0 t entry entry
-    long_refused r l h = size_refused r (rw (le-leb 16 (length m) l, lt-leb (length m) 16384 h))
-
-    pub message_answered : 16384 ≤ length entry → 16 ≤ length m → length m ≤ 16384 → (r : Answered) (words exit : List ℕ)
+    pub message_answered : 16384 ≤ length entry → 16 ≤ length m → length m ≤ 16384 → (r : Result ℕ Refusal) (words exit : List ℕ)
         → Answers (seat_message (rows_of src.rows) (seat_held t seat) m) r words entry exit
-        → Keeps (message_step src t seat m (length entry)) r.refusal 0 r.count (put t (seat_at seat) (seat_at seat + seat_size - seat_at seat) words) entry exit
+        → MessageKeeps (message_step src t seat m (length entry)) r (put t (seat_at seat) (seat_at seat + seat_size - seat_at seat) words) entry exit
     unfolding first_cause message_step
     message_answered h l k r words exit a =
         let f : first_cause (judging src t seat ++ sizing m (length entry)) ≡ 0
@@ -61,3 +64,10 @@ module _ (src : Sources) (t : List ℕ) (seat : ℕ) (m : List ℕ) (entry : Lis
           kept = seated_is t seat words (seat_message (rows_of src.rows) (seat_held t seat) m).after a.kept;
           written = a.written;
         }
+
+    -- a message of another size
+    pub short_unsized : length m < 16 → message_sized m ≡ false
+    short_unsized h = rw (lt-leb 16 (length m) h)
+
+    pub long_unsized : 16 ≤ length m → 16384 < length m → message_sized m ≡ false
+    long_unsized l h = rw (le-leb 16 (length m) l, lt-leb (length m) 16384 h)

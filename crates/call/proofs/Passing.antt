@@ -3,7 +3,7 @@ use mathlib.Core.Path.{◌≡◌, refl, sym, ap, subst, ◌∙◌}
 use mathlib.Core.Bool.{true}
 use mathlib.Core.List.{List, [], ◌∷◌, ◌++◌, map}
 use mathlib.Core.Logic.{◌⊎◌, inl, ⊎_elim}
-use mathlib.Core.Option.{Option, none, some}
+use Rattle.std.specs.Prelude.{Option, None, Some}
 use Prim.Native.Nat.{ℕ, ◌+◌, ◌<◌}
 use native.Mathlib.Omega.{arith}
 use borrow.Author.Tests.{eqb-true, lt-ltb}
@@ -12,7 +12,7 @@ use lib.ListN.{length, get_or, length-map}
 use Rattle.lists.proofs.Below.{by_test, true≢false, both_left, both_right, both_true, every_at, every_shown}
 use Rattle.lists.proofs.Options.{none≢some, some_is}
 use Rattle.catalogue.specs.Plain.{Row, catalogue, rows_of}
-use Rattle.catalogue.specs.CataloguePlaces.{checked, places, row_seen}
+use Rattle.catalogue.specs.CataloguePlaces.{checked, row_count, places, row_seen}
 use Rattle.catalogue.proofs.Agree.{accepted, catalogue_agrees, rows_counted}
 use Rattle.lists.specs.Every.{every}
 use Rattle.tree.specs.Tree.{Tree}
@@ -68,12 +68,12 @@ module _ (t : List ℕ) (w : table_well t ≡ true) (seat : ℕ) (h : seat < sea
 
 -- a seat that is fit, with rows below the catalogue's count, keeps the table passing
 seated_passes : (src : Sources) (t : List ℕ) → Passing src t → (seat : ℕ) → seat < seats → (s : Option Seat) → SeatOk s
-    → ((rows : List Row) → src.rows ≡ some rows → table_below (length rows) t ≡ true → seat_below (length rows) s ≡ true) → Passing src (seated t seat s)
+    → ((rows : List Row) → src.rows ≡ Some rows → table_below (length rows) t ≡ true → seat_below (length rows) s ≡ true) → Passing src (seated t seat s)
 seated_passes src t p seat h s f b = record { well = seated_well t p.well seat h s f; holds = go src.rows refl p.holds }
   where
     go : (rows : Option (List Row)) → src.rows ≡ rows → rows_hold rows t ≡ true → rows_hold rows (seated t seat s) ≡ true
-    go none q e = absurd (true≢false (sym e))
-    go (some rows) q e = seated_below t p.well seat h s f (length rows) e (b rows q e)
+    go None q e = absurd (true≢false (sym e))
+    go (Some rows) q e = seated_below t p.well seat h s f (length rows) e (b rows q e)
 
 pub connect_passes : (src : Sources) (t : List ℕ) (seat version : ℕ) → Passing src t → Passing src (connect_step src t seat version).words
 unfolding connect_step
@@ -81,7 +81,7 @@ connect_passes src t seat version p =
     by_test (eqb (first_cause (connect_causes src t seat)) 0)
     (λ q.
     let e = (first_both (judging src t seat) ((7, is_connected (seat_held t seat)) ∷ []) (judging_numbered src t seat) (eqb-true (first_cause (connect_causes src t seat)) 0 q)).0 in
-    rw q (seated_passes src t p seat (passes src t seat e).seat_in_lem (some (fresh version)) (tt, tt) (λ rows r b. refl)))
+    rw q (seated_passes src t p seat (passes src t seat e).seat_in_lem (Some (fresh version)) (tt, tt) (λ rows r b. refl)))
     (λ q. rw q p)
 
 pub message_passes : (src : Sources) (t : List ℕ) (seat : ℕ) (m : List ℕ) (room : ℕ) → Passing src t → Passing src (message_step src t seat m room).words
@@ -98,24 +98,24 @@ message_passes src t seat m room p =
     (λ q. rw q p)
 
 -- the rows of a catalogue that parses are those that its check counts
-rows_length : (s : List ℕ) (rows : List Row) → catalogue s ≡ some rows → length rows ≡ (checked s).rows
+rows_length : (s : List ℕ) (rows : List Row) → catalogue s ≡ Some rows → length rows ≡ row_count (checked s)
 rows_length s rows e =
     by_test (accepted s)
     (λ q.
-    let seen : catalogue s ≡ some (map (row_seen s) (places s)) = catalogue_agrees s ∙ rw q in
+    let seen : catalogue s ≡ Some (map (row_seen s) (places s)) = catalogue_agrees s ∙ rw q in
     ap length (sym (some_is (sym seen ∙ e))) ∙ length-map (places s) (row_seen s) ∙ rows_counted s q)
     (λ q.
-    let seen : catalogue s ≡ none = catalogue_agrees s ∙ rw q in
+    let seen : catalogue s ≡ None = catalogue_agrees s ∙ rw q in
     absurd (none≢some (sym seen ∙ e)))
 
 -- a cursor on a selection fits, and its rows are below the catalogue's count
 pub selected_fits : (s : List ℕ) (tree : Option Tree) (rows : Option (List Row)) → catalogue s ≡ rows → CursorFits (opened (selected_by tree rows))
 unfolding every
-selected_fits s none rows e =
+selected_fits s None rows e =
     record { position = omega arith; rows = omega arith; rising = λ i h. absurd (omega (arith, h)); bound = inl (refl, refl); tidied = refl }
-selected_fits s (some t) none e =
+selected_fits s (Some t) None e =
     record { position = omega arith; rows = omega arith; rising = λ i h. absurd (omega (arith, h)); bound = inl (refl, refl); tidied = refl }
-selected_fits s (some t) (some rows) e =
+selected_fits s (Some t) (Some rows) e =
     record {
       position = omega arith;
       rows = omega (arith, numbers_few 0 (holds t) rows, rows_length s rows e, rows_few s);
@@ -124,17 +124,17 @@ selected_fits s (some t) (some rows) e =
       tidied = refl;
     }
 
-selected_below : (tree : Option Tree) (rows : List Row) → every (λ row. ltb row (length rows)) (selected_by tree (some rows)) ≡ true
+selected_below : (tree : Option Tree) (rows : List Row) → every (λ row. ltb row (length rows)) (selected_by tree (Some rows)) ≡ true
 unfolding every
-selected_below none rows = refl
-selected_below (some t) rows =
+selected_below None rows = refl
+selected_below (Some t) rows =
     each-shown (λ row. ltb row (length rows)) (selection t rows) 0
     (λ k h.
     lt-ltb (get_or (selection t rows) k 0) (length rows)
     (omega (arith, (rises_between 0 (0 + length rows) (selection t rows) (numbers_rise 0 (holds t) rows) k h).1)))
 
-with_below : (bound : ℕ) (s : Seat) (handle : ℕ) (o : Option Cursor) → seat_below bound (some s) ≡ true → cursor_below bound o ≡ true
-    → seat_below bound (some (with_cursor s handle o)) ≡ true
+with_below : (bound : ℕ) (s : Seat) (handle : ℕ) (o : Option Cursor) → seat_below bound (Some s) ≡ true → cursor_below bound o ≡ true
+    → seat_below bound (Some (with_cursor s handle o)) ≡ true
 with_below bound s handle o w c =
     by_test (eqb handle 1)
     (λ q. rw q (both_true (cursor_below bound o) _ c (both_right (cursor_below bound s.first) _ w)))
@@ -152,13 +152,13 @@ open_passes s t seat tree p =
     (λ q. rw q p)
   where
     done : (held : Option Seat) → seat_held t seat ≡ held → seat < seats → Passing (sources_of s) (open_done (sources_of s) t seat tree held).words
-    done none e h = p
-    done (some k) e h =
+    done None e h = p
+    done (Some k) e h =
         let f = subst SeatOk e (seat_ok t p.well seat h) in
-        seated_passes (sources_of s) t p seat h (some (opened_on k tree (catalogue s)))
-        (with_fits k (free_handle k) (some (opened (selected_by (restriction tree) (catalogue s)))) f.0 f.1
+        seated_passes (sources_of s) t p seat h (Some (opened_on k tree (catalogue s)))
+        (with_fits k (free_handle k) (Some (opened (selected_by (restriction tree) (catalogue s)))) f.0 f.1
         (selected_fits s (restriction tree) (catalogue s) refl))
         (λ rows r b.
-        with_below (length rows) k (free_handle k) (some (opened (selected_by (restriction tree) (catalogue s))))
+        with_below (length rows) k (free_handle k) (Some (opened (selected_by (restriction tree) (catalogue s))))
         (ap (seat_below (length rows)) (sym e) ∙ seat_below_lem (length rows) t b seat h)
         (ap (λ (x : Option (List Row)). every (λ row. ltb row (length rows)) (selected_by (restriction tree) x)) r ∙ selected_below (restriction tree) rows))

@@ -2,7 +2,7 @@
 use mathlib.Core.Path.{◌≡◌, sym, ap, ap₂, ◌∙◌}
 use mathlib.Core.Bool.{true, false}
 use mathlib.Core.List.{List}
-use mathlib.Core.Option.{Option, none}
+use Rattle.std.specs.Prelude.{Option, None}
 use Prim.Native.Nat.{ℕ, ◌+◌, ◌-◌, ◌<◌}
 use native.Mathlib.Nat.{add-zero}
 use native.Mathlib.Omega.{arith}
@@ -33,10 +33,10 @@ module _ (t : List ℕ) (w : table_well t ≡ true) (seat : ℕ) (h : seat < sea
   pub seat_ok : SeatOk (seat_held t seat)
   seat_ok = (seat_back (seat_part t seat) (part_size t (table_length t w) seat h) (table_seat t w seat h)).1
 
-  pub held_none : get_or t (seat_at seat) 0 ≡ 0 → seat_held t seat ≡ none
+  pub held_none : get_or t (seat_at seat) 0 ≡ 0 → seat_held t seat ≡ None
   held_none e = rw (eq-eqb (get_or (seat_part t seat) 0 0) 0 (first_word t seat ∙ e))
 
-  pub part_none : get_or t (seat_at seat) 0 ≡ 0 → seat_part t seat ≡ seat_words none
+  pub part_none : get_or t (seat_at seat) 0 ≡ 0 → seat_part t seat ≡ seat_words None
   part_none e = words_is ∙ ap seat_words (held_none e)
 
   pub is_connected_lem : (get_or t (seat_at seat) 0 ≡ 0 → ⊥) → is_connected (seat_held t seat) ≡ true

@@ -3,12 +3,11 @@
 use mathlib.Core.Path.{◌≡◌, refl, sym, ap, subst, ◌∙◌}
 use mathlib.Core.Bool.{true}
 use mathlib.Core.List.{List, [], ◌∷◌, map}
-use mathlib.Core.Option.{Option, none, some}
+use Rattle.std.specs.Prelude.{Option, None, Some}
 use Prim.Native.Nat.{ℕ, zero, suc, ◌+◌, ◌-◌, ◌*◌, ◌<◌}
 use native.Mathlib.Nat.{not-suc-le-zero, le_of_suc-le-suc}
 use native.Mathlib.Omega.{arith}
 use lib.ListN.{length, get_or, take, drop, length-map}
-use lib.Seq.{length-sets}
 use Rattle.lists.proofs.Below.{true≢false}
 use Rattle.catalogue.specs.Plain.{Row, catalogue, rows_of, row_in}
 use Rattle.catalogue.specs.CataloguePlaces.{places, row_seen}
@@ -21,9 +20,6 @@ use Rattle.lists.proofs.Parts.{part_is}
 use Rattle.catalogue.specs.CatalogueReady.{PlacesReady}
 use Rattle.message.specs.AnswerReady.{SourcesReady}
 use Rattle.call.specs.Step.{rows_hold, seat_held}
-use Rattle.call.specs.JudgementTold.{Judgement}
-use Rattle.call.specs.declared.Judged.{Judged}
-use Rattle.call.proofs.Causes.{places_told}
 use Rattle.call.proofs.Passing.{seat_below_lem}
 
 -- a member of a list of rows seen at places
@@ -55,10 +51,5 @@ sourced s t seat rows held l h n =
     (record { below = go (catalogue s) h; placed = noted_placed s rows held n })
   where
     go : (found : Option (List Row)) → rows_hold found t ≡ true → seat_below (length (rows_of found)) (seat_held t seat) ≡ true
-    go none e = absurd (true≢false (sym e))
-    go (some found) e = seat_below_lem (length found) t e seat l
-
--- the array of places keeps its length
-pub noted_length : (t s : List ℕ) (seat : ℕ) (r : Judged) (held found : List ℕ) → Judgement t s seat r held found → r.refusal ≡ 0 → length held ≡ 1024
-    → length found ≡ 1024
-noted_length t s seat r held found j z l = ap length (places_told j z) ∙ length-sets held 0 (places s) ∙ l
+    go None e = absurd (true≢false (sym e))
+    go (Some found) e = seat_below_lem (length found) t e seat l

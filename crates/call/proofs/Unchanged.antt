@@ -2,7 +2,7 @@
 use mathlib.Core.Path.{◌≡◌, refl, sym, ap, ◌∙◌}
 use mathlib.Core.List.{List, ◌++◌}
 use mathlib.Core.Logic.{◌⊎◌, inl, inr}
-use mathlib.Core.Option.{Option, none, some}
+use Rattle.std.specs.Prelude.{Option, None, Some}
 use mathlib.Core.Bool.{true}
 use Prim.Native.Nat.{ℕ, ◌<◌}
 use borrow.Author.Tests.{eqb-true}
@@ -50,8 +50,8 @@ open_unchanged src t seat tree =
     (λ q. rw q (λ z. record { handle = refl; words = refl; reply = inl refl }))
   where
     done : (held : Option Seat) → Refused (open_done src t seat tree held).refusal → Unchanged (open_done src t seat tree held) t
-    done none z = record { handle = refl; words = refl; reply = inl refl }
-    done (some s) z = absurd (z refl)
+    done None z = record { handle = refl; words = refl; reply = inl refl }
+    done (Some s) z = absurd (z refl)
 
 -- a message that its seat refuses leaves the seat and writes sixteen bytes
 on_seat_lem : (rows : List Row) (held : Option Seat) (m : List ℕ) → Refused (seat_message rows held m).refusal
@@ -63,13 +63,13 @@ on_seat_lem rows held m =
     (λ q. rw q (λ z. (refl, refl)))
   where
     done : (s : Option Seat) → Refused (done_by rows s m).refusal → ((done_by rows s m).after ≡ s) × (length (done_by rows s m).reply ≡ 16)
-    done none z = (refl, refl)
-    done (some s) z = absurd (z (none_refused (kind_of (msg_of m)) s sent_rows))
+    done None z = (refl, refl)
+    done (Some s) z = absurd (z (none_refused (kind_of (msg_of m)) s sent_rows))
       where
         sent_rows : (c : Option Cursor) (q : Option Request) → (rows_done rows s (handle_of m) c q).refusal ≡ 0
-        sent_rows none q = refl
-        sent_rows (some c) none = refl
-        sent_rows (some c) (some q) = refl
+        sent_rows None q = refl
+        sent_rows (Some c) None = refl
+        sent_rows (Some c) (Some q) = refl
 
         none_refused : (kind : ℕ) (k : Seat) → ((c : Option Cursor) (q : Option Request) → (rows_done rows k (handle_of m) c q).refusal ≡ 0) → (done_on rows kind k m).refusal ≡ 0
         none_refused kind k f =

@@ -1,6 +1,6 @@
 -- What a call does: a step from the sources and the table to an outcome.
 use Rattle.std.specs.Prelude.{◌≡◌, Bool, true, false, not, List, [], ◌∷◌, ◌++◌, ℕ, ltb, eqb, length, drop}
-use Rattle.std.proofs.Math.Option.{Option, none, some}
+use Rattle.std.specs.Prelude.{Option, None, Some, Result}
 use Rattle.lists.specs.Below.{pick}
 use Rattle.wire.specs.Checksum.{message_sized}
 use Rattle.catalogue.specs.Plain.{Row, catalogue, rows_of}
@@ -8,9 +8,12 @@ use Rattle.table.specs.Layout.{seat_size, seat_at, seat_part}
 use Rattle.lists.specs.Parts.{put}
 use Rattle.table.specs.Seat.{Seat, seat_words, seat_of, fresh}
 use Rattle.table.specs.Well.{table_well, table_below}
+use Rattle.table.specs.declared.Handle.{Handle}
+use Rattle.refusal.specs.declared.Refusal.{Refusal}
 use Rattle.refusal.specs.Refusal.{first_cause}
-use Rattle.message.specs.Message.{SeatOutcome, seat_message}
-use Rattle.query.specs.Open.{free_handle, open_causes, opened_on}
+use Rattle.refusal.specs.Numbers.{number_of}
+use Rattle.message.specs.Message.{SeatOutcome, seat_message, count_of}
+use Rattle.query.specs.Open.{free_handle, handle_in, open_causes, opened_on}
 use Rattle.wire.specs.Header.{message_most}
 
 -- what a call reads beside the table: the rows of the catalogue, none where it is malformed
@@ -36,14 +39,24 @@ pub record Keeps (o : Outcome) (refusal handle count : ℕ) (words entry exit : 
   pub kept : words ≡ o.words
   pub written : exit ≡ o.reply ++ drop (length o.reply) entry
 
+-- the same of what connecting, opening and a message answer
+abbrev pub ConnectKeeps : Outcome → Result Unit Refusal → List ℕ → Type 0
+ConnectKeeps o r words = Keeps o (number_of r) 0 0 words [] []
+
+abbrev pub OpenKeeps : Outcome → Result Handle Refusal → List ℕ → Type 0
+OpenKeeps o r words = Keeps o (number_of r) (handle_in r) 0 words [] []
+
+abbrev pub MessageKeeps : Outcome → Result ℕ Refusal → List ℕ → List ℕ → List ℕ → Type 0
+MessageKeeps o r words entry exit = Keeps o (number_of r) 0 (count_of r) words entry exit
+
 -- nothing is written
 abbrev pub quiet : ℕ → List ℕ → Outcome
 quiet refusal words = record { refusal = refusal; handle = 0; reply = []; words = words }
 
 -- refusal 3: "catalogue malformed, or an open cursor's row number not below its row count"
 abbrev pub rows_hold : Option (List Row) → List ℕ → Bool
-rows_hold none t = false
-rows_hold (some rows) t = table_below (length rows) t
+rows_hold None t = false
+rows_hold (Some rows) t = table_below (length rows) t
 
 -- what every call judges: 1 "seat above 7", 2 "session table malformed", 3
 abbrev pub judging : Sources → List ℕ → ℕ → List (ℕ × Bool)
@@ -55,8 +68,8 @@ seat_held t seat = seat_of (seat_part t seat)
 
 -- whether it is connected
 abbrev pub is_connected : Option Seat → Bool
-is_connected none = false
-is_connected (some s) = true
+is_connected None = false
+is_connected (Some s) = true
 
 -- the table with another seat in a seat's place; "No refusal changes the table"
 abbrev pub seated : List ℕ → ℕ → Option Seat → List ℕ
@@ -70,7 +83,7 @@ connect_causes src t seat = judging src t seat ++ ((7, is_connected (seat_held t
 unfoldable pub connect_step : Sources → List ℕ → ℕ → ℕ → Outcome
 connect_step src t seat version =
     pick (eqb (first_cause (connect_causes src t seat)) 0)
-    (quiet 0 (seated t seat (some (fresh version))))
+    (quiet 0 (seated t seat (Some (fresh version))))
     (quiet (first_cause (connect_causes src t seat)) t)
 
 -- a message: 4 "reply buffer under 16,384 bytes", 5 "message under 16 or over 16,384 bytes", and then what its seat says
@@ -90,9 +103,9 @@ message_step src t seat m room =
 
 -- opening: 7, 14 and 16 are judged of the seat and the tree; "opening also [returns] the handle (0 if refused)"
 abbrev pub open_done : Sources → List ℕ → ℕ → List ℕ → Option Seat → Outcome
-open_done src t seat tree none = quiet 7 t
-open_done src t seat tree (some s) =
-    record { refusal = 0; handle = free_handle s; reply = []; words = seated t seat (some (opened_on s tree src.rows)) }
+open_done src t seat tree None = quiet 7 t
+open_done src t seat tree (Some s) =
+    record { refusal = 0; handle = free_handle s; reply = []; words = seated t seat (Some (opened_on s tree src.rows)) }
 
 -- refused without a reply; else a cursor is opened on the rows that the tree selects
 unfoldable pub open_step : Sources → List ℕ → ℕ → List ℕ → Outcome

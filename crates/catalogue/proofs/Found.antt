@@ -1,11 +1,27 @@
--- What was looked for, a text or a row, is there and ends at a place, or there is none: the laws of both. Assumes nothing.
-use mathlib.Core.Path.{◌≡◌, refl, sym, ap, ◌∙◌}
+-- What was looked for, a number, a text or a row, is there and ends at a place, or there is none. Assumes nothing.
+use mathlib.Core.Path.{◌≡◌, refl, sym, ap}
+use Rattle.std.specs.Prelude.{Option, None, Some}
 use Prim.Native.Nat.{ℕ}
+use Rattle.lists.specs.Options.{and_then}
+use Rattle.lists.proofs.Options.{none≢some, some_is}
+use Rattle.catalogue.specs.CataloguePlaces.{end_of}
 
-module _ {R T : Type 0} (none : R) (to : T → ℕ → R) (cases : (P : R → Type 0) → P none → ((t : T) (p : ℕ) → P (to t p)) → (r : R) → P r) (end : R → ℕ) where
-  -- one that is there ends after its place, so a place of 0 says that there is none
-  pub gone : (r : R) → ((t : T) (p : ℕ) → r ≡ to t p → end (to t p) ≡ 0 → ⊥) → end r ≡ 0 → r ≡ none
-  gone r past z = cases (λ q. r ≡ q → end q ≡ 0 → q ≡ none) (λ e w. refl) (λ t p e w. absurd (past t p e w)) r refl z
+pub gone : {A : Type 0} (r : Option (A × ℕ)) → None ≡ end_of r → r ≡ None
+gone None e = refl
+gone (Some r) e = absurd (none≢some e)
 
-  pub there : end none ≡ 0 → ((t : T) (p : ℕ) → end (to t p) ≡ p) → (n : ℕ) (r : R) → n ≡ end r → (n ≡ 0 → ⊥) → (t : T) × (r ≡ to t n)
-  there e f n r w z = cases (λ q. n ≡ end q → (t : T) × (q ≡ to t n)) (λ w. absurd (z (w ∙ e))) (λ t p w. (t, ap (to t) (sym (w ∙ f t p)))) r w
+pub there : {A : Type 0} (r : Option (A × ℕ)) (n : ℕ) → Some n ≡ end_of r → (a : A) × (r ≡ Some (a, n))
+there None n e = absurd (none≢some (sym e))
+there (Some r) n e = (r.0, ap (λ (k : ℕ). Some (r.0, k)) (sym (some_is e)))
+
+-- the place after what follows it, which the place after it decides
+pub ends_on : {A B : Type 0} (o : Option (A × ℕ)) (f : A × ℕ → Option (B × ℕ)) (on : ℕ → Option ℕ) → ((a : A × ℕ) → end_of (f a) ≡ on a.1)
+    → end_of (and_then o f) ≡ and_then (end_of o) on
+ends_on None f on h = refl
+ends_on (Some a) f on h = h a
+
+-- the same in two steps
+pub ends_further : {A B : Type 0} (o : Option (A × ℕ)) (f : A × ℕ → Option (B × ℕ)) (g on : ℕ → Option ℕ)
+    → ((a : A × ℕ) → end_of (f a) ≡ and_then (g a.1) on) → end_of (and_then o f) ≡ and_then (and_then (end_of o) g) on
+ends_further None f g on h = refl
+ends_further (Some a) f g on h = h a

@@ -13,4 +13,3 @@ pub mod EndLaws
 pub mod RowsLaws
 pub mod CheckLaws
 pub mod Numbered
-pub mod Words

@@ -1,7 +1,7 @@
 -- What the writer writes reads back, and what reads is what the writer writes. Assumes nothing.
 use mathlib.Core.Path.{◌≡◌, refl, sym, ap, ap₂, ◌∙◌}
 use mathlib.Core.List.{List, [], ◌∷◌, ◌++◌}
-use mathlib.Core.Option.{Option, none, some}
+use Rattle.std.specs.Prelude.{Option, None, Some}
 use Prim.Native.Nat.{ℕ, zero, suc, ◌+◌, ◌-◌, ◌*◌, ◌/◌, ◌%◌, ◌^◌, ◌≤◌, ◌<◌}
 use native.Mathlib.Omega.{arith}
 use native.Mathlib.Numerals.{add-one}
@@ -16,11 +16,11 @@ use Rattle.catalogue.specs.Groups.{groups, further, within, number, split_after,
 use Rattle.catalogue.proofs.Inside.{further_inv}
 
 -- the first group and what the rest holds, joined
-joined : (b v n : ℕ) → (v ≡ 0 → ⊥) → further b (some (v, n)) ≡ some (b + 128 * v, n + 1)
+joined : (b v n : ℕ) → (v ≡ 0 → ⊥) → further b (Some (v, n)) ≡ Some (b + 128 * v, n + 1)
 joined b v n h = rw (ne_eqb v 0 h)
 
 -- the writer's bytes, whatever follows them
-pub groups_written : (k v : ℕ) (rest : List ℕ) → v < 128 ^ suc k → groups (groups_of k v ++ rest) ≡ some (v, length (groups_of k v))
+pub groups_written : (k v : ℕ) (rest : List ℕ) → v < 128 ^ suc k → groups (groups_of k v ++ rest) ≡ Some (v, length (groups_of k v))
 unfolding groups groups_of
 groups_written zero v rest h = rw (lt-ltb v 128 h)
 groups_written (suc k) v rest h =
@@ -29,7 +29,7 @@ groups_written (suc k) v rest h =
     (λ q.
     rw (q, le-ltb (v % 128 + 128) 128 (omega arith), groups_written k (v / 128) rest (omega arith))
     (joined (v % 128 + 128 - 128) (v / 128) (length (groups_of k (v / 128))) (λ e. omega (arith, ltb-false v 128 q))
-    ∙ ap₂ (λ (a b : ℕ). some (a, b)) (omega arith) (add-one (length (groups_of k (v / 128))))))
+    ∙ ap₂ (λ (a b : ℕ). Some (a, b)) (omega arith) (add-one (length (groups_of k (v / 128))))))
 
 small : (k v : ℕ) → v < 128 → groups_of k v ≡ v ∷ []
 unfolding groups_of
@@ -50,13 +50,13 @@ more (suc k) b v n s r h l z p q fits rest =
     rw (q, add-one, p, large k b r.0 h l z) (ap (λ (t : List ℕ). b ∷ t) (rest k (omega arith)))
 
 -- the bytes that a number was read from are the writer's
-pub written_groups : (k : ℕ) (s : List ℕ) (v n : ℕ) → Bytes s → groups s ≡ some (v, n) → v < 128 ^ suc k → take n s ≡ groups_of k v
+pub written_groups : (k : ℕ) (s : List ℕ) (v n : ℕ) → Bytes s → groups s ≡ Some (v, n) → v < 128 ^ suc k → take n s ≡ groups_of k v
 unfolding groups
 written_groups k [] v n bytes e h = absurd (none≢some e)
 written_groups k (b ∷ s) v n bytes e h =
     by_test (ltb b 128)
     (λ q.
-    let t : some (b, 1) ≡ some (v, n) = rw q at e in
+    let t : Some (b, 1) ≡ Some (v, n) = rw q at e in
     let p : b ≡ v = (pair_is t).0 in
     let m : 1 ≡ n = (pair_is t).1 in
     rw (← p, ← m) (sym (small k b (ltb-true b 128 q))))
@@ -66,23 +66,23 @@ written_groups k (b ∷ s) v n bytes e h =
     (λ j l. written_groups j s f.0.0 f.0.1 (λ i. bytes (suc i)) f.1 l))
 
 -- the plain parser reads what the writer wrote, whatever follows it
-pub number_written : (limit v : ℕ) (rest : List ℕ) → v ≤ limit → limit < 128 ^ 10 → number limit (written v ++ rest) ≡ some (v, rest)
+pub number_written : (limit v : ℕ) (rest : List ℕ) → v ≤ limit → limit < 128 ^ 10 → number limit (written v ++ rest) ≡ Some (v, rest)
 unfolding number
 number_written limit v rest h l =
     rw (groups_written 9 v rest (omega arith), le-leb v limit h, drop-append_seam (written v) rest)
 
 -- and what it read is what the writer writes
-pub number_read : (limit : ℕ) (s : List ℕ) (v : ℕ) (rest : List ℕ) → limit < 128 ^ 10 → Bytes s → number limit s ≡ some (v, rest)
+pub number_read : (limit : ℕ) (s : List ℕ) (v : ℕ) (rest : List ℕ) → limit < 128 ^ 10 → Bytes s → number limit s ≡ Some (v, rest)
     → (s ≡ written v ++ rest) × (v ≤ limit)
 unfolding number
 number_read limit s v rest l bytes e = go (groups s) refl e
   where
-    go : (g : Option (ℕ × ℕ)) → groups s ≡ g → split_after s (within limit g) ≡ some (v, rest) → (s ≡ written v ++ rest) × (v ≤ limit)
-    go none p q = absurd (none≢some q)
-    go (some r) p q =
+    go : (g : Option (ℕ × ℕ)) → groups s ≡ g → split_after s (within limit g) ≡ Some (v, rest) → (s ≡ written v ++ rest) × (v ≤ limit)
+    go None p q = absurd (none≢some q)
+    go (Some r) p q =
         by_test (leb r.0 limit)
         (λ t.
-        let w : some (r.0, drop r.1 s) ≡ some (v, rest) = rw t at q in
+        let w : Some (r.0, drop r.1 s) ≡ Some (v, rest) = rw t at q in
         let value : r.0 ≡ v = (pair_is w).0 in
         let after : drop r.1 s ≡ rest = (pair_is w).1 in
         let small : r.0 ≤ limit = leb-true r.0 limit t in (

@@ -3,7 +3,7 @@
 use mathlib.Core.Path.{◌≡◌, refl, sym, ap, ap₂, subst, ◌∙◌}
 use mathlib.Core.Bool.{true, false, not}
 use mathlib.Core.List.{List, [], ◌∷◌, ◌++◌, append_assoc, append-nil}
-use mathlib.Core.Option.{Option, none, some}
+use Rattle.std.specs.Prelude.{Option, None, Some}
 use Prim.Native.Nat.{ℕ, zero, suc, ◌+◌, ◌-◌, ◌*◌, ◌≤◌, ◌<◌}
 use native.Mathlib.Numerals.{add-one}
 use native.Mathlib.Omega.{arith}
@@ -67,10 +67,10 @@ clear_units s bytes e i l =
     (omega (arith, eqb-false (get_or (halves s) i 0) 0 nonzero), halves_small s bytes i)
 
 -- a text
-text_written : (t : Option (List ℕ)) (rest : List ℕ) → TextFits t → text (write_text t ++ rest) ≡ some (t, rest)
+text_written : (t : Option (List ℕ)) (rest : List ℕ) → TextFits t → text (write_text t ++ rest) ≡ Some (t, rest)
 unfolding text
-text_written none rest fits = rw (number_written size_most 0 rest (omega arith) (omega arith))
-text_written (some units) rest fits =
+text_written None rest fits = rw (number_written size_most 0 rest (omega arith) (omega arith))
+text_written (Some units) rest fits =
     rw (
       append_assoc (written (length units + 1)) (unit_bytes units) rest,
       number_written size_most (length units + 1) (unit_bytes units ++ rest) (omega (arith, fits.0)) (omega arith),
@@ -90,7 +90,7 @@ bytes_take (suc n) (b ∷ s) bytes (suc i) = bytes_take n s (λ j. bytes (suc j)
 
 -- the units that a text was read to, after its size
 units_back : (n : ℕ) (s : List ℕ) → suc n ≤ size_most → Bytes s → 2 * n ≤ length s → none_zero (halves (take (2 * n) s)) ≡ true
-    → (written (suc n) ++ s ≡ write_text (some (halves (take (2 * n) s))) ++ drop (2 * n) s) × TextFits (some (halves (take (2 * n) s)))
+    → (written (suc n) ++ s ≡ write_text (Some (halves (take (2 * n) s))) ++ drop (2 * n) s) × TextFits (Some (halves (take (2 * n) s)))
 units_back n s h bytes l clear = (
   ap (λ (m : ℕ). written m ++ s) size
       ∙ ap (λ (r : List ℕ). written (length units + 1) ++ r) (sym (take-append-drop (2 * n) s))
@@ -111,21 +111,21 @@ units_back n s h bytes l clear = (
     size : suc n ≡ length units + 1
     size = omega (arith, halves_length (take (2 * n) s), taken)
 
-text_back : (s : List ℕ) (t : Option (List ℕ)) (rest : List ℕ) → Bytes s → text s ≡ some (t, rest) → (s ≡ write_text t ++ rest) × TextFits t
+text_back : (s : List ℕ) (t : Option (List ℕ)) (rest : List ℕ) → Bytes s → text s ≡ Some (t, rest) → (s ≡ write_text t ++ rest) × TextFits t
 unfolding text
 text_back s t rest bytes e =
     let i = then_inv (number size_most s) _ (t, rest) e in
     let r = number_read size_most s i.0.0 i.0.1 (omega arith) bytes i.1 in
     go i.0.0 i.0.1 r.0 r.1 i.2
   where
-    go : (n : ℕ) (after : List ℕ) → s ≡ written n ++ after → n ≤ size_most → text_after n after ≡ some (t, rest) → (s ≡ write_text t ++ rest) × TextFits t
+    go : (n : ℕ) (after : List ℕ) → s ≡ written n ++ after → n ≤ size_most → text_after n after ≡ Some (t, rest) → (s ≡ write_text t ++ rest) × TextFits t
     go zero after w h q =
-        let f : ◌≡◌ {A = Option (Option (List ℕ) × List ℕ)} (some (none, after)) (some (t, rest)) = q in
+        let f : ◌≡◌ {A = Option (Option (List ℕ) × List ℕ)} (Some (None, after)) (Some (t, rest)) = q in
         rw (← (pair_is f).0, ← (pair_is f).1) (w, tt)
     go (suc n) after w h q =
         by_test (both (leb (2 * n) (length after)) (none_zero (halves (take (2 * n) after))))
         (λ c.
-        let f : ◌≡◌ {A = Option (Option (List ℕ) × List ℕ)} (some (some (halves (take (2 * n) after)), drop (2 * n) after)) (some (t, rest)) = rw c at q in
+        let f : ◌≡◌ {A = Option (Option (List ℕ) × List ℕ)} (Some (Some (halves (take (2 * n) after)), drop (2 * n) after)) (Some (t, rest)) = rw c at q in
         let b = units_back n after h (bytes_after s (written (suc n)) after w bytes)
         (leb-true (2 * n) (length after) (both_left _ (none_zero (halves (take (2 * n) after))) c))
         (both_right (leb (2 * n) (length after)) _ c) in
@@ -133,7 +133,7 @@ text_back s t rest bytes e =
         (λ c. absurd (none≢some (rw c at q)))
 
 -- a row
-row_written : (r : Row) (rest : List ℕ) → RowFits r → row (write_row r ++ rest) ≡ some (r, rest)
+row_written : (r : Row) (rest : List ℕ) → RowFits r → row (write_row r ++ rest) ≡ Some (r, rest)
 unfolding row
 row_written r rest fits =
     simp append_assoc
@@ -149,8 +149,8 @@ joined : (r : Row) (s s₁ s₂ s₃ s₄ rest : List ℕ) → s ≡ written r.k
     → s₃ ≡ write_text r.label ++ s₄ → s₄ ≡ write_text r.note ++ rest → s ≡ write_row r ++ rest
 joined r s s₁ s₂ s₃ s₄ rest e₁ e₂ e₃ e₄ e₅ = rw (e₁, e₂, e₃, e₄, e₅) (simp append_assoc)
 
-fields_back : (k l d : ℕ) (a b : Option (List ℕ)) (s s₁ s₂ s₃ s₄ s₅ : List ℕ) → Bytes s → number key_most s ≡ some (k, s₁) → number number_most s₁ ≡ some (l, s₂)
-    → number number_most s₂ ≡ some (d, s₃) → text s₃ ≡ some (a, s₄) → text s₄ ≡ some (b, s₅)
+fields_back : (k l d : ℕ) (a b : Option (List ℕ)) (s s₁ s₂ s₃ s₄ s₅ : List ℕ) → Bytes s → number key_most s ≡ Some (k, s₁) → number number_most s₁ ≡ Some (l, s₂)
+    → number number_most s₂ ≡ Some (d, s₃) → text s₃ ≡ Some (a, s₄) → text s₄ ≡ Some (b, s₅)
     → (s ≡ write_row (record { key = k; language = l; default = d; label = a; note = b }) ++ s₅) × RowFits (record { key = k; language = l; default = d; label = a; note = b })
 fields_back k l d a b s s₁ s₂ s₃ s₄ s₅ bytes e₁ e₂ e₃ e₄ e₅ =
     let k' = number_read key_most s k s₁ (omega arith) bytes e₁ in
@@ -165,7 +165,7 @@ fields_back k l d a b s s₁ s₂ s₃ s₄ s₅ bytes e₁ e₂ e₃ e₄ e₅ 
       record { key = k'.1; language = l'.1; default = d'.1; label = a'.1; note = b'.1 },
     )
 
-row_back : (s : List ℕ) (r : Row) (rest : List ℕ) → Bytes s → row s ≡ some (r, rest) → (s ≡ write_row r ++ rest) × RowFits r
+row_back : (s : List ℕ) (r : Row) (rest : List ℕ) → Bytes s → row s ≡ Some (r, rest) → (s ≡ write_row r ++ rest) × RowFits r
 unfolding row
 row_back s r rest bytes e =
     let k = then_inv (number key_most s) _ (r, rest) e in
@@ -177,20 +177,20 @@ row_back s r rest bytes e =
     (fields_back k.0.0 l.0.0 d.0.0 a.0.0 b.0.0 s k.0.1 l.0.1 d.0.1 a.0.1 b.0.1 bytes k.1 l.1 d.1 a.1 b.1)
   where
     told : (k l d : ℕ) (a b : Option (List ℕ)) (s₅ : List ℕ)
-        → ◌≡◌ {A = Option (Row × List ℕ)} (some (record { key = k; language = l; default = d; label = a; note = b }, s₅)) (some (r, rest))
+        → ◌≡◌ {A = Option (Row × List ℕ)} (Some (record { key = k; language = l; default = d; label = a; note = b }, s₅)) (Some (r, rest))
         → (s ≡ write_row (record { key = k; language = l; default = d; label = a; note = b }) ++ s₅) × RowFits (record { key = k; language = l; default = d; label = a; note = b })
         → (s ≡ write_row r ++ rest) × RowFits r
     told k l d a b s₅ q w =
         subst (λ (p : Row × List ℕ). (s ≡ write_row p.0 ++ p.1) × RowFits p.0) (some_is q) w
 
 -- rows, one after the other
-rows_written : (rs : List Row) (rest : List ℕ) → RowsFit rs → rows (length rs) (write_rows rs ++ rest) ≡ some (rs, rest)
+rows_written : (rs : List Row) (rest : List ℕ) → RowsFit rs → rows (length rs) (write_rows rs ++ rest) ≡ Some (rs, rest)
 unfolding rows write_rows RowsFit
 rows_written [] rest fits = refl
 rows_written (r ∷ rs) rest fits =
     rw (append_assoc (write_row r) (write_rows rs) rest, row_written r (write_rows rs ++ rest) fits.0, rows_written rs rest fits.1)
 
-rows_back : (n : ℕ) (s : List ℕ) (rs : List Row) (rest : List ℕ) → Bytes s → rows n s ≡ some (rs, rest)
+rows_back : (n : ℕ) (s : List ℕ) (rs : List Row) (rest : List ℕ) → Bytes s → rows n s ≡ Some (rs, rest)
     → (s ≡ write_rows rs ++ rest) × RowsFit rs × (length rs ≡ n)
 unfolding rows write_rows RowsFit
 rows_back zero s rs rest bytes e = subst (λ (p : List Row × List ℕ). (s ≡ write_rows p.0 ++ p.1) × RowsFit p.0 × (length p.0 ≡ 0)) (some_is e) (refl, tt, refl)
@@ -203,14 +203,14 @@ rows_back (suc n) s rs rest bytes e =
   where
     told : (r : Row) (s₁ : List ℕ) (others : List Row) (s₂ : List ℕ) → (s ≡ write_row r ++ s₁) × RowFits r
         → (s₁ ≡ write_rows others ++ s₂) × RowsFit others × (length others ≡ n)
-        → ◌≡◌ {A = Option (List Row × List ℕ)} (some (r ∷ others, s₂)) (some (rs, rest))
+        → ◌≡◌ {A = Option (List Row × List ℕ)} (Some (r ∷ others, s₂)) (Some (rs, rest))
         → (s ≡ write_rows rs ++ rest) × RowsFit rs × (length rs ≡ suc n)
     told r s₁ others s₂ a b q =
         subst (λ (p : List Row × List ℕ). (s ≡ write_rows p.0 ++ p.1) × RowsFit p.0 × (length p.0 ≡ suc n)) (some_is q)
         (a.0 ∙ ap (λ (t : List ℕ). write_row r ++ t) b.0 ∙ sym (append_assoc (write_row r) (write_rows others) s₂), (a.1, b.1), ap suc b.2)
 
 -- the whole: rows that fit parse back from what is written of them
-pub parses_written : (rs : List Row) → Fits rs → catalogue (write rs) ≡ some rs
+pub parses_written : (rs : List Row) → Fits rs → catalogue (write rs) ≡ Some rs
 unfolding catalogue
 parses_written rs fits =
     rw (
@@ -220,12 +220,12 @@ parses_written rs fits =
       rows_written rs [] fits.each,
     )
 
-whole_back : (rs : List Row) (rest : List ℕ) (told : List Row) → whole rs rest ≡ some told → (rest ≡ []) × (rs ≡ told)
+whole_back : (rs : List Row) (rest : List ℕ) (told : List Row) → whole rs rest ≡ Some told → (rest ≡ []) × (rs ≡ told)
 whole_back rs [] told e = (refl, some_is e)
 whole_back rs (b ∷ rest) told e = absurd (none≢some e)
 
 -- and bytes that parse are what is written of the rows they parse to, which fit
-pub written_parses : (s : List ℕ) (rs : List Row) → Bytes s → catalogue s ≡ some rs → (s ≡ write rs) × Fits rs
+pub written_parses : (s : List ℕ) (rs : List Row) → Bytes s → catalogue s ≡ Some rs → (s ≡ write rs) × Fits rs
 unfolding catalogue
 written_parses s rs bytes e =
     by_test (leb (length s) bytes_most)
@@ -235,8 +235,8 @@ written_parses s rs bytes e =
     go q n.0.0 n.0.1 m.0.0 m.0.1 n.1 m.1 m.2)
     (λ q. absurd (none≢some (rw q at e)))
   where
-    go : leb (length s) bytes_most ≡ true → (n : ℕ) (s₁ : List ℕ) (found : List Row) (s₂ : List ℕ) → number rows_most s ≡ some (n, s₁)
-        → rows n s₁ ≡ some (found, s₂) → whole found s₂ ≡ some rs → (s ≡ write rs) × Fits rs
+    go : leb (length s) bytes_most ≡ true → (n : ℕ) (s₁ : List ℕ) (found : List Row) (s₂ : List ℕ) → number rows_most s ≡ Some (n, s₁)
+        → rows n s₁ ≡ Some (found, s₂) → whole found s₂ ≡ Some rs → (s ≡ write rs) × Fits rs
     go q n s₁ found s₂ a b w =
         let n' = number_read rows_most s n s₁ (omega arith) bytes a in
         let r' = rows_back n s₁ found s₂ (bytes_after s (written n) s₁ n'.0 bytes) b in

@@ -1,7 +1,8 @@
 -- Laws of a text's units: none of those passed is zero, nor of blocks of them. Assumes nothing.
-use mathlib.Core.Path.{◌≡◌, sym, ap, ◌∙◌}
-use mathlib.Core.Bool.{Bool, true, false, not}
+use mathlib.Core.Path.{◌≡◌, refl, sym, ap, ◌∙◌}
+use mathlib.Core.Bool.{Bool, true, false, not, ◌&&◌}
 use mathlib.Core.List.{List}
+use Rattle.std.specs.Prelude.{None, Some}
 use Prim.Native.Nat.{ℕ, ◌+◌, ◌-◌, ◌*◌, ◌/◌, ◌≤◌, ◌<◌}
 use native.Mathlib.Omega.{arith}
 use borrow.Author.Tests.{le-leb, lt-leb, ltb-true, ltb-false}
@@ -9,14 +10,12 @@ use lib.Dec.{eqb, ltb}
 use lib.ListN.{length, take, drop}
 use Rattle.lists.specs.Below.{pick, both, every_below}
 use Rattle.wire.specs.Word.{number_at, halves}
-use Rattle.lists.proofs.Below.{by_test, true≢false, both_left, both_right, both_true, every_at, every_shown, every_start, every_fewer, every_is}
+use Rattle.lists.proofs.Below.{by_test, true≢false, both_left, both_right, both_true, every_at, every_shown, every_start, every_more, every_fewer, every_is}
 use Rattle.wire.proofs.Halves.{halves_length, halves_at}
 use Rattle.catalogue.specs.Plain.{none_zero}
 use Rattle.catalogue.specs.NumberPlaces.{reading_at}
-use Rattle.catalogue.specs.declared.Reading.TheVariants.{Number}
 use Rattle.catalogue.specs.Limits.{size_most}
-use Rattle.catalogue.specs.CataloguePlaces.{text_after_at, text_at, text_end, unit_bytes_of, unit_clear, clear_from}
-use Rattle.catalogue.specs.declared.TextAt.TheVariants.{TextTo, NoText}
+use Rattle.catalogue.specs.CataloguePlaces.{text_after_at, text_at, end_of, unit_bytes_of, unit_clear, clear_from}
 use Rattle.catalogue.proofs.Inside.{reading_read}
 
 -- a unit is by the number at its bytes
@@ -35,6 +34,28 @@ clear_at units first n k e l h = ap (unit_clear units) here ∙ every_at n _ e (
   where
     here : k ≡ first + (k - first)
     here = omega arith
+
+-- two blocks with one unit more of each
+blocks_joined : (a b c d : Bool) → both c d && (b && a) ≡ both (both a c) (both b d)
+blocks_joined true true true true = refl
+blocks_joined true true true false = refl
+blocks_joined true true false d = refl
+blocks_joined true false true true = refl
+blocks_joined true false true false = refl
+blocks_joined true false false d = refl
+blocks_joined false true true true = refl
+blocks_joined false true true false = refl
+blocks_joined false true false d = refl
+blocks_joined false false true true = refl
+blocks_joined false false true false = refl
+blocks_joined false false false d = refl
+
+pub blocks_more : (units : List ℕ) (first second i : ℕ) (clear one other : Bool) → clear ≡ both (clear_from units first i) (clear_from units second i)
+    → one ≡ unit_clear units (first + i) → other ≡ unit_clear units (second + i)
+    → clear && (other && one) ≡ both (clear_from units first (i + 1)) (clear_from units second (i + 1))
+blocks_more units first second i clear one other e p q =
+    rw (every_more i (λ k. unit_clear units (first + k)), every_more i (λ k. unit_clear units (second + k)), e, p, q)
+    (blocks_joined (unit_clear units (first + i)) (unit_clear units (second + i)) (clear_from units first i) (clear_from units second i))
 
 -- two blocks of a size that begin within the units passed and end at the n-th: all n units
 pub clear_two : (units : List ℕ) (size passed first second n : ℕ) → clear_below units passed ≡ true → first ≤ passed → first ≤ second → second ≤ first + size → second + size ≡ n
@@ -70,12 +91,12 @@ clear_broken units m n h e =
     (λ q. q)
 
 -- the ways that the units of a text can be read: they run past the end; or they are there, and the answer is by the zero units
-pub units_short : (s : List ℕ) (size start : ℕ) → start ≤ length s → length s < start + unit_bytes_of size → text_after_at s size start ≡ NoText
+pub units_short : (s : List ℕ) (size start : ℕ) → start ≤ length s → length s < start + unit_bytes_of size → text_after_at s size start ≡ None
 units_short s size start l h = rw (lt-leb (unit_bytes_of size) (length s - start) (omega arith))
 
 pub units_there : (s : List ℕ) (size start end : ℕ) (clear : Bool) → end ≡ start + unit_bytes_of size → end ≤ length s
     → clear ≡ none_zero (halves (take (end - start) (drop start s)))
-    → text_after_at s size start ≡ pick clear (TextTo (record { size = size; start = start }) end) NoText
+    → text_after_at s size start ≡ pick clear (Some (record { size = size; start = start }, end)) None
 units_there s size start end clear e h q =
     rw (le-leb (unit_bytes_of size) (length s - start) (omega arith), q, e, same)
   where
@@ -83,23 +104,23 @@ units_there s size start end clear e h q =
     same = omega arith
 
 -- the place after a text whose size was read
-pub end_absent : (s : List ℕ) (at size start : ℕ) → reading_at size_most s at ≡ Number size start → size ≡ 0 → start ≡ text_end (text_at s at)
+pub end_absent : (s : List ℕ) (at size start : ℕ) → reading_at size_most s at ≡ Some (size, start) → size ≡ 0 → Some start ≡ end_of (text_at s at)
 unfolding text_at halves
 end_absent s at size start e z = rw (e, z, units_there s 0 start start true (omega arith) (reading_read size_most s at size start e).inside (sym (none_of (start - start) (omega arith))))
   where
     none_of : (n : ℕ) → n ≡ 0 → none_zero (halves (take n (drop start s))) ≡ true
     none_of n h = rw h (every_start _)
 
-pub end_short : (s : List ℕ) (at size start : ℕ) → reading_at size_most s at ≡ Number size start → start ≤ length s → length s < start + unit_bytes_of size
-    → 0 ≡ text_end (text_at s at)
+pub end_short : (s : List ℕ) (at size start : ℕ) → reading_at size_most s at ≡ Some (size, start) → start ≤ length s → length s < start + unit_bytes_of size
+    → None ≡ end_of (text_at s at)
 unfolding text_at
 end_short s at size start e l h = rw (e, units_short s size start l h)
 
-module _ (s : List ℕ) (at size start end : ℕ) (e : reading_at size_most s at ≡ Number size start) (p : end ≡ start + unit_bytes_of size) (h : end ≤ length s) where
-  pub end_clear : true ≡ none_zero (halves (take (end - start) (drop start s))) → end ≡ text_end (text_at s at)
+module _ (s : List ℕ) (at size start end : ℕ) (e : reading_at size_most s at ≡ Some (size, start)) (p : end ≡ start + unit_bytes_of size) (h : end ≤ length s) where
+  pub end_clear : true ≡ none_zero (halves (take (end - start) (drop start s))) → Some end ≡ end_of (text_at s at)
   unfolding text_at
   end_clear q = rw (e, units_there s size start end true p h q)
 
-  pub end_zero : false ≡ none_zero (halves (take (end - start) (drop start s))) → 0 ≡ text_end (text_at s at)
+  pub end_zero : false ≡ none_zero (halves (take (end - start) (drop start s))) → None ≡ end_of (text_at s at)
   unfolding text_at
   end_zero q = rw (e, units_there s size start end false p h q)

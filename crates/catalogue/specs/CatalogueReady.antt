@@ -1,10 +1,7 @@
 -- What is known of a catalogue that was checked: what its readers rely on.
-use Rattle.std.specs.Prelude.{◌≡◌, List, ℕ, ◌+◌, ◌≤◌, ◌<◌, length, get_or}
+use Rattle.std.specs.Prelude.{◌≡◌, List, ℕ, ◌+◌, ◌≤◌, ◌<◌, Some, length, get_or}
 use Rattle.catalogue.specs.declared.Text.{Text}
 use Rattle.catalogue.specs.declared.Fields.{Fields}
-use Rattle.catalogue.specs.declared.Reading.TheVariants.{Number}
-use Rattle.catalogue.specs.declared.TextAt.TheVariants.{TextTo}
-use Rattle.catalogue.specs.declared.RowAt.TheVariants.{RowTo}
 use Rattle.catalogue.specs.NumberPlaces.{reading_at}
 use Rattle.catalogue.specs.CataloguePlaces.{text_at, row_at, unit_bytes_of, row_seen}
 use Rattle.catalogue.specs.Limits.{key_most, number_most, size_most}
@@ -12,13 +9,13 @@ use Rattle.catalogue.specs.Plain.{catalogue, rows_of, row_in}
 
 -- a number, a text and a row stand at a place
 abbrev pub NumberAtReady : ℕ → List ℕ → ℕ → Type 0
-NumberAtReady limit s at = (v : ℕ) × (next : ℕ) × (reading_at limit s at ≡ Number v next)
+NumberAtReady limit s at = (v : ℕ) × (next : ℕ) × (reading_at limit s at ≡ Some (v, next))
 
 abbrev pub TextAtReady : List ℕ → ℕ → Type 0
-TextAtReady s at = (t : Text) × (next : ℕ) × (text_at s at ≡ TextTo t next)
+TextAtReady s at = (t : Text) × (next : ℕ) × (text_at s at ≡ Some (t, next))
 
 abbrev pub RowAtReady : List ℕ → ℕ → Type 0
-RowAtReady s at = (f : Fields) × (next : ℕ) × (row_at s at ≡ RowTo f next)
+RowAtReady s at = (f : Fields) × (next : ℕ) × (row_at s at ≡ Some (f, next))
 
 -- a text's units lie in the catalogue's bytes
 pub record UnitsReady (s : List ℕ) (t : Text) : Type 0 where

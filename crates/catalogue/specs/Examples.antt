@@ -1,6 +1,6 @@
 -- The catalogue of 01's whole case, as bytes and as rows.
 use Rattle.std.specs.Prelude.{List, [], ◌∷◌, ℕ}
-use Rattle.std.proofs.Math.Option.{none, some}
+use Rattle.std.specs.Prelude.{None, Some}
 use Rattle.catalogue.specs.Plain.{Row}
 
 abbrev pub case_bytes : List ℕ
@@ -10,6 +10,6 @@ case_bytes =
 -- key 300, language 1,031, default 5, label "OK", no note; then key 1 and nothing else
 abbrev pub case_rows : List Row
 case_rows =
-    record { key = 300; language = 1031; default = 5; label = some (0x4f ∷ 0x4b ∷ []); note = none }
-    ∷ record { key = 1; language = 0; default = 0; label = none; note = none }
+    record { key = 300; language = 1031; default = 5; label = Some (0x4f ∷ 0x4b ∷ []); note = None }
+    ∷ record { key = 1; language = 0; default = 0; label = None; note = None }
     ∷ []

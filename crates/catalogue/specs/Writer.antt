@@ -1,6 +1,6 @@
 -- The writer of the option catalogue, the plain parser's other half: what parses is exactly what it writes.
 use Rattle.std.specs.Prelude.{List, [], ◌∷◌, ◌++◌, ℕ, ◌+◌, ◌≤◌, ◌<◌, length, get_or}
-use Rattle.std.proofs.Math.Option.{Option, none, some}
+use Rattle.std.specs.Prelude.{Option, None, Some}
 use Rattle.wire.specs.Word.{le}
 use Rattle.catalogue.specs.Groups.{written}
 use Rattle.catalogue.specs.Limits.{rows_most, key_most, number_most, size_most, bytes_most}
@@ -13,8 +13,8 @@ unit_bytes (u ∷ units) = le 2 u ++ unit_bytes units
 
 -- "0 for absent, else its count of UTF-16 units plus one .., then the units"
 abbrev pub write_text : Option (List ℕ) → List ℕ
-write_text none = written 0
-write_text (some units) = written (length units + 1) ++ unit_bytes units
+write_text None = written 0
+write_text (Some units) = written (length units + 1) ++ unit_bytes units
 
 -- a row, rows one after the other, and the whole: the row count, then the rows
 abbrev pub write_row : Row → List ℕ
@@ -29,8 +29,8 @@ write rs = written (length rs) ++ write_rows rs
 
 -- what a text, a row and a catalogue must be for the writer's bytes to be well formed
 abbrev pub TextFits : Option (List ℕ) → Type 0
-TextFits none = Unit {0}
-TextFits (some units) = (length units < size_most) × ((i : ℕ) → i < length units → (0 < get_or units i 0) × (get_or units i 0 < 65536))
+TextFits None = Unit {0}
+TextFits (Some units) = (length units < size_most) × ((i : ℕ) → i < length units → (0 < get_or units i 0) × (get_or units i 0 < 65536))
 
 pub record RowFits (r : Row) : Type 0 where
   pub key : r.key ≤ key_most

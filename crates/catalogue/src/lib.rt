@@ -13,25 +13,11 @@ pub const ROWS_MOST: usize = 1024;
 
 pub const BYTES_MOST: usize = 0x10_0000;
 
-// A number with the place after it.
-#[derive(Clone, Copy)]
-pub enum Reading {
-    Number(u64, usize),
-    Malformed,
-}
-
 // A text: 0 for absent, else its count of units plus one; and the place of its first unit.
 #[derive(Clone, Copy)]
 pub struct Text {
     pub size: usize,
     pub start: usize,
-}
-
-// A text with the place after it.
-#[derive(Clone, Copy)]
-pub enum TextAt {
-    TextTo(Text, usize),
-    NoText,
 }
 
 // The fields of a row.
@@ -44,24 +30,7 @@ pub struct Fields {
     pub note: Text,
 }
 
-// The words that hold them: a struct is copied at every call, an array is lent.
-pub const FIELD_WORDS: usize = 7;
-
-// A row with the place after it.
-#[derive(Clone, Copy)]
-pub enum RowAt {
-    RowTo(Fields, usize),
-    NoRow,
-}
-
 // A row's number: a type of its own, as a seat and a cursor's handle are (`table::Seat`, `table::Handle`), so that none can
 // stand for another.
 #[derive(Clone, Copy)]
 pub struct Row(pub u32);
-
-// The check's answer: refusal 3 or 0, and the row count (0 where it is refused).
-#[derive(Clone, Copy)]
-pub struct Checked {
-    pub refusal: u32,
-    pub rows: u32,
-}

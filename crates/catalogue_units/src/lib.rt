@@ -15,10 +15,7 @@ pub fn units_end(size: usize, start: usize) -> usize
     requires { (start < 2 ^ 63) × (size ≤ 2049) }
     ensures { result ≡ start + unit_bytes_of size }
 {
-    if size == 0 {
-        return start;
-    }
-    start + 2 * (size - 1)
+    start + 2 * size.saturating_sub(1)
 }
 
 // The bytes of a text's units, as a part of the caller's own.
@@ -26,10 +23,8 @@ pub fn units(catalogue: &[u8], text: Text) -> &[u8]
     requires { (text.size ≤ size_most) × (text.start + unit_bytes_of text.size ≤ length catalogue.now) }
     ensures { result.now ≡ units_part catalogue.now text }
 {
-    let start = text.start;
-    let size = text.size;
-    let end = units_end(size, start);
-    &catalogue[start..end]
+    let end = units_end(text.size, text.start);
+    &catalogue[text.start..end]
 }
 
 // One unit is not zero.
@@ -44,13 +39,10 @@ fn unit_clear(units: &[u8], index: usize) -> bool
 fn few_clear(units: &[u8]) -> bool
     ensures { result ≡ none_zero (halves units.now) }
 {
-    let count = units.len() / 2;
-    let mut i = 0;
-    while i < count {
+    for i in 0..units.len() / 2 {
         if !unit_clear(units, i) {
             return false;
         }
-        i += 1;
     }
     true
 }
@@ -62,15 +54,8 @@ fn blocks_clear(units: &[u8], size: usize, first: usize, second: usize) -> bool
     ensures { result ≡ both (clear_from units.now first size) (clear_from units.now second size) }
 {
     let mut clear = true;
-    let mut i = 0;
-    while i < size {
-        if !unit_clear(units, second + i) {
-            clear = false;
-        }
-        if !unit_clear(units, first + i) {
-            clear = false;
-        }
-        i += 1;
+    for i in 0..size {
+        clear &= unit_clear(units, second + i) & unit_clear(units, first + i);
     }
     clear
 }
@@ -80,30 +65,23 @@ fn many_clear(units: &[u8]) -> bool
     requires { 66 ≤ length units.now }
     ensures { result ≡ none_zero (halves units.now) }
 {
-    let last = units.len() / 2 - 32;
-    let mut i = 0;
-    while i < last {
-        if !blocks_clear(units, 16, i, i + 16) {
+    let count = units.len() / 2;
+    for block in 0..(count - 1) / 32 {
+        if !blocks_clear(units, 16, 32 * block, 32 * block + 16) {
             return false;
         }
-        i += 32;
     }
-    blocks_clear(units, 16, last, last + 16)
+    blocks_clear(units, 16, count - 32, count - 16)
 }
 
 // No unit of a part is zero. Blocks overlap, so that no unit is left for a slower rest.
 pub fn none_zero(units: &[u8]) -> bool
     ensures { result ≡ none_zero (halves units.now) }
 {
-    let count = units.len() / 2;
-    if count < 8 {
-        return few_clear(units);
+    match units.len() / 2 {
+        0..8 => few_clear(units),
+        count @ 8..=16 => blocks_clear(units, 8, 0, count - 8),
+        count @ 17..=32 => blocks_clear(units, 16, 0, count - 16),
+        _ => many_clear(units),
     }
-    if count <= 16 {
-        return blocks_clear(units, 8, 0, count - 8);
-    }
-    if count <= 32 {
-        return blocks_clear(units, 16, 0, count - 16);
-    }
-    many_clear(units)
 }

@@ -3,7 +3,7 @@ use mathlib.Core.Path.{◌≡◌, refl, sym, ap, ap₂, subst, ◌∙◌}
 use mathlib.Core.Bool.{Bool, true}
 use mathlib.Core.List.{List, [], ◌∷◌}
 use mathlib.Core.Logic.{⊎_elim}
-use mathlib.Core.Option.{some}
+use Rattle.std.specs.Prelude.{Some}
 use Prim.Native.Nat.{ℕ, zero, suc, ◌+◌, ◌-◌, ◌≤◌, ◌<◌}
 use native.Mathlib.Nat.{not-suc-le-zero, le_of_suc-le-suc}
 use native.Mathlib.Omega.{arith}
@@ -16,17 +16,16 @@ use Rattle.catalogue.specs.Plain.{Row, catalogue, rows_of}
 use Rattle.catalogue.specs.CataloguePlaces.{row_seen}
 use Rattle.catalogue.specs.CatalogueReady.{RowAtReady, PlacesReady}
 use Rattle.lists.specs.Every.{every}
+use Rattle.bindings.specs.Column.{columns_most}
 use Rattle.bindings.specs.Fit.{row_most, fit}
-use Rattle.table.specs.Layout.{cursor_size, rows_size, records_at, records_size}
-use Rattle.lists.specs.Parts.{part}
+use Rattle.table.specs.Layout.{cursor_size, rows_size}
 use Rattle.table.specs.Seat.{cursor_held}
 use Rattle.table.proofs.Seats.{cursor_words_lem}
-use Rattle.lists.proofs.Parts.{part_length}
 use Rattle.bindings.proofs.Sound.{fit_sound}
 use Rattle.refusal.specs.Refusal.{first_cause}
 use Rattle.fetch.specs.declared.Request.{Request}
 use Rattle.page.specs.RowPlaces.{rows_at}
-use Rattle.page.specs.RowReady.{RecordsReady, NumbersReady}
+use Rattle.page.specs.RowReady.{NumbersReady}
 use Rattle.page.proofs.FillSteps.{rows_more}
 use Rattle.fetch.specs.Fetch.{numbered, remaining, early_causes}
 use Rattle.fetch.specs.FetchReady.{FetchReady}
@@ -72,7 +71,7 @@ every_take test (suc n) (a ∷ t) e = both_true (test a) _ (both_left (test a) _
 
 module _ (b s places : List ℕ) (q : Request) (buffer : ℕ) (r : FetchReady b s places q buffer) where
   pub size_is : length b ≡ cursor_size
-  size_is = ap length r.held ∙ (cursor_words_lem (some (cursor_held b)) r.fits).size
+  size_is = ap length r.held ∙ (cursor_words_lem (Some (cursor_held b)) r.fits).size
 
   pub count_is : get_or b 2 0 ≡ length (cursor_held b).selection
   count_is = ap (λ (x : List ℕ). get_or x 2 0) r.held
@@ -149,12 +148,8 @@ module _ (b s places : List ℕ) (q : Request) (buffer : ℕ) (r : FetchReady b 
         (λ (f : fit (cursor_held b).width (cursor_held b).columns ≡ true). f)
         r.fits.bound
 
-    pub words_ready : RecordsReady (part b records_at records_size) (get_or b 3 0)
-    words_ready =
-        record {
-          long = part_length b records_at records_size (omega (arith, size_is));
-          few = omega (arith, columns_are, (fit_sound (cursor_held b).width (cursor_held b).columns bindings_fit).count.1);
-        }
+    pub words_ready : get_or b 3 0 ≤ columns_most
+    words_ready = omega (arith, columns_are, (fit_sound (cursor_held b).width (cursor_held b).columns bindings_fit).count.1)
 
     pub width_most : get_or b 4 0 ≤ row_most
     width_most = (fit_sound (cursor_held b).width (cursor_held b).columns bindings_fit).row.1

@@ -2,17 +2,21 @@
 use mathlib.Core.Path.{◌≡◌, refl, sym, ap, ◌∙◌}
 use mathlib.Core.Bool.{true, false}
 use mathlib.Core.List.{List, [], ◌∷◌, ◌++◌}
-use mathlib.Core.Option.{some}
+use Rattle.std.specs.Prelude.{Some, Result, Ok, Err}
 use Prim.Native.Nat.{ℕ, ◌+◌, ◌<◌}
 use native.Mathlib.Omega.{arith}
 use borrow.Author.Tests.{eqb-true, eqb-false}
 use lib.Dec.{eqb}
 use lib.ListN.{length, get_or, set, drop}
 use Rattle.lists.proofs.Below.{by_test}
-use Rattle.catalogue.specs.Plain.{Row, catalogue, rows_of}
+use Rattle.catalogue.specs.Plain.{catalogue, rows_of}
 use Rattle.table.specs.Seat.{Cursor, cursor_words, cursor_held}
 use Rattle.table.proofs.Writes.{moved_words}
 use Rattle.refusal.specs.Refusal.{first_cause}
+use Rattle.refusal.specs.declared.Refusal.{Refusal}
+use Rattle.refusal.specs.declared.Refusal.TheVariants.{RowUnfit}
+use Rattle.refusal.specs.Numbers.{refusal_number, judged, number_of}
+use Rattle.refusal.proofs.Numbers.{refused_number, given_number, number_least, judged_same}
 use Rattle.refusal.proofs.First.{first_stop, first_go, first_both, first_under}
 use Rattle.fetch.specs.declared.Request.{Request}
 use Rattle.page.specs.Page.{status_for}
@@ -25,17 +29,30 @@ use Rattle.fetch.proofs.Facts.{bindings_fit}
 use Rattle.fetch.proofs.Sending.{inside}
 
 -- refused: all is as it was
-refused_by_lem : (b s : List ℕ) (q : Request) (n : ℕ) (entry : List ℕ) → first_cause (fetch_causes (rows_of (catalogue s)) (cursor_held b) q) ≡ n → (n ≡ 0 → ⊥)
-    → Fetched b s q n b entry entry
-refused_by_lem b s q n entry e z =
-    record { refused = sym e; unmoved = λ w. refl; unwritten = λ w. refl; moved = λ w. absurd (z w); written = λ w. absurd (z w) }
+refused_by_lem : (b s : List ℕ) (q : Request) (r : Refusal) (entry : List ℕ) → first_cause (fetch_causes (rows_of (catalogue s)) (cursor_held b) q) ≡ refusal_number r
+    → Fetched b s q (Err r) b entry entry
+refused_by_lem b s q r entry e =
+    record {
+      refused = sym e;
+      unmoved = λ w. refl;
+      unwritten = λ w. refl;
+      moved = λ w. absurd (number_least r w);
+      written = λ w. absurd (number_least r w);
+    }
 
-pub early_refused : (b s : List ℕ) (q : Request) (n : ℕ) (entry : List ℕ) → n ≡ first_cause (early_causes (cursor_held b) q) → (n ≡ 0 → ⊥)
-    → Fetched b s q n b entry entry
-early_refused b s q n entry e z =
-    refused_by_lem b s q n entry
-    (first_stop (early_causes (cursor_held b) q) ((15, first_unfit (cursor_held b) q (remaining (rows_of (catalogue s)) (cursor_held b))) ∷ []) n (sym e) z)
-    z
+early_small : (c : Cursor) (q : Request) → first_cause (early_causes c q) < 17
+early_small c q = first_under 17 (early_causes c q) (omega arith) (omega arith, (omega arith, (omega arith, tt)))
+
+pub early_refused : (b s : List ℕ) (q : Request) (r : Refusal) (entry : List ℕ) → Err r ≡ judged (first_cause (early_causes (cursor_held b) q))
+    → Fetched b s q (Err r) b entry entry
+early_refused b s q r entry e =
+    refused_by_lem b s q r entry
+    (first_stop (early_causes (cursor_held b) q) ((15, first_unfit (cursor_held b) q (remaining (rows_of (catalogue s)) (cursor_held b))) ∷ []) (refusal_number r)
+    (refused_number _ tt r (early_small (cursor_held b) q) e) (number_least r))
+
+-- passed: none of 11 to 13 applies
+pub early_passed : (b : List ℕ) (q : Request) → Ok tt ≡ judged (first_cause (early_causes (cursor_held b) q)) → first_cause (early_causes (cursor_held b) q) ≡ 0
+early_passed b q e = given_number _ tt tt (early_small (cursor_held b) q) e
 
 module _ (b s : List ℕ) (q : Request) (early : first_cause (early_causes (cursor_held b) q) ≡ 0) where
   causes : first_cause (fetch_causes (rows_of (catalogue s)) (cursor_held b) q)
@@ -44,14 +61,14 @@ module _ (b s : List ℕ) (q : Request) (early : first_cause (early_causes (curs
       first_go (early_causes (cursor_held b) q) ((15, first_unfit (cursor_held b) q (remaining (rows_of (catalogue s)) (cursor_held b))) ∷ [])
       ((λ e. omega arith), ((λ e. omega arith), ((λ e. omega arith), tt))) early
 
-  pub late_refused : (entry : List ℕ) → first_unfit (cursor_held b) q (remaining (rows_of (catalogue s)) (cursor_held b)) ≡ true → Fetched b s q 15 b entry entry
+  pub late_refused : (entry : List ℕ) → first_unfit (cursor_held b) q (remaining (rows_of (catalogue s)) (cursor_held b)) ≡ true → Fetched b s q (Err RowUnfit) b entry entry
   unfolding first_cause
-  late_refused entry e = refused_by_lem b s q 15 entry (causes ∙ rw e) (λ z. omega arith)
+  late_refused entry e = refused_by_lem b s q RowUnfit entry (causes ∙ rw e)
 
-  pub fetch_done : (k : ℕ) (words entry exit : List ℕ) → b ≡ cursor_words (some (cursor_held b))
+  pub fetch_done : (k : ℕ) (words entry exit : List ℕ) → b ≡ cursor_words (Some (cursor_held b))
       → first_unfit (cursor_held b) q (remaining (rows_of (catalogue s)) (cursor_held b)) ≡ false → k ≡ sent (rows_of (catalogue s)) (cursor_held b) q
       → words ≡ set b 1 (get_or b 1 0 + k) → exit ≡ fetch_reply (rows_of (catalogue s)) (cursor_held b) q ++ drop q.size entry
-      → Fetched b s q 0 words entry exit
+      → Fetched b s q (Ok tt) words entry exit
   unfolding first_cause
   fetch_done k words entry exit held e counted m w =
       record {
@@ -67,20 +84,20 @@ module _ (b s : List ℕ) (q : Request) (early : first_cause (early_causes (curs
       }
 
 -- any two outcomes agree
-pub fetched_once : (b s : List ℕ) (q : Request) (r r' : ℕ) (k k' entry x x' : List ℕ) → Fetched b s q r k entry x → Fetched b s q r' k' entry x'
+pub fetched_once : (b s : List ℕ) (q : Request) (r r' : Result Unit Refusal) (k k' entry x x' : List ℕ) → Fetched b s q r k entry x → Fetched b s q r' k' entry x'
     → (r ≡ r') × (k ≡ k') × (x ≡ x')
 fetched_once b s q r r' k k' entry x x' f g =
-    by_test (eqb r 0)
+    by_test (eqb (number_of r) 0)
     (λ z.
-    let e : r ≡ 0 = eqb-true r 0 z in
-    let e' : r' ≡ 0 = sym same ∙ e in
-    (same, f.moved e ∙ sym (g.moved e'), f.written e ∙ sym (g.written e')))
+    let e : number_of r ≡ 0 = eqb-true (number_of r) 0 z in
+    let e' : number_of r' ≡ 0 = sym same ∙ e in
+    (judged_same r r' same, f.moved e ∙ sym (g.moved e'), f.written e ∙ sym (g.written e')))
     (λ z.
-    let n : r ≡ 0 → ⊥ = eqb-false r 0 z in
-    let n' : r' ≡ 0 → ⊥ = λ w. n (same ∙ w) in
-    (same, f.unmoved n ∙ sym (g.unmoved n'), f.unwritten n ∙ sym (g.unwritten n')))
+    let n : number_of r ≡ 0 → ⊥ = eqb-false (number_of r) 0 z in
+    let n' : number_of r' ≡ 0 → ⊥ = λ w. n (same ∙ w) in
+    (judged_same r r' same, f.unmoved n ∙ sym (g.unmoved n'), f.unwritten n ∙ sym (g.unwritten n')))
   where
-    same : r ≡ r'
+    same : number_of r ≡ number_of r'
     same = f.refused ∙ sym g.refused
 
 -- a request that is not refused: its reply has the size that was asked for
@@ -94,7 +111,3 @@ reply_length b s places q buffer r e =
     ((λ z. omega arith), ((λ z. omega arith), ((λ z. omega arith), tt))) e).0)
     r.sound.from_least
     (returned_room q.size q.from (cursor_held b).width (cursor_held b).columns q.asked (remaining (rows_of (catalogue s)) (cursor_held b)) (inside b s places q buffer r))
-
--- its refusal is a number of the table
-pub fetch_small : (rows : List Row) (c : Cursor) (q : Request) → first_cause (fetch_causes rows c q) < 17
-fetch_small rows c q = first_under 17 (fetch_causes rows c q) (omega arith) (omega arith, (omega arith, (omega arith, (omega arith, tt))))

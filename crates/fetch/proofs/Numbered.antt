@@ -1,7 +1,7 @@
 -- What the reader of a request answers is what the plain definition reads, or refusal 9 where it reads nothing. Assumes nothing.
 use mathlib.Core.Path.{◌≡◌, refl}
 use mathlib.Core.List.{List}
-use mathlib.Core.Option.{Option, none, some}
+use Rattle.std.specs.Prelude.{Option, None, Some}
 use Prim.Native.Nat.{ℕ}
 use Rattle.lists.specs.Numbered.{or_refused}
 use Rattle.fetch.specs.Request.{request}
@@ -12,5 +12,5 @@ pub asking_numbered_lem : (m : List ℕ) → asking_numbered (asking (request m)
 asking_numbered_lem m = go (request m)
   where
     go : (o : Option Request) → asking_numbered (asking o) ≡ or_refused 9 o
-    go none = refl
-    go (some q) = refl
+    go None = refl
+    go (Some q) = refl

@@ -1,11 +1,11 @@
 -- Each limit of a request for rows: where one is passed the body is malformed, whatever the others say. Assumes nothing.
 use mathlib.Core.Path.{◌≡◌, refl, sym, ap}
-use mathlib.Core.Bool.{Bool, true, false}
+use mathlib.Core.Bool.{true, false}
 use mathlib.Core.List.{List}
-use mathlib.Core.Option.{Option, none, some}
-use Prim.Native.Nat.{ℕ, ◌+◌, ◌%◌, ◌≤◌, ◌<◌}
+use Rattle.std.specs.Prelude.{Option, None, Some, Ok, Err}
+use Prim.Native.Nat.{ℕ, ◌+◌, ◌≤◌, ◌<◌}
 use native.Mathlib.Omega.{arith}
-use borrow.Author.Tests.{le-leb, lt-leb, leb-true, eq-eqb, ne_eqb}
+use borrow.Author.Tests.{le-leb, lt-leb, leb-true}
 use lib.Dec.{leb}
 use lib.ListN.{length}
 use Rattle.lists.specs.Below.{both}
@@ -15,64 +15,32 @@ use Rattle.lists.proofs.Options.{none≢some, some_is}
 use Rattle.fetch.specs.Request.{least_size, reserved_at, size_at, base_at, backward_at, seek_at, seek_size_at, sized, in_range, seek_fits, asked, well_formed, request, Sound}
 use Rattle.wire.specs.Header.{handle_at}
 use Rattle.fetch.specs.declared.Request.{Request}
-use Rattle.fetch.specs.declared.Asking.TheVariants.{Asked, Malformed}
 use Rattle.fetch.specs.Asking.{asking}
-
-both_none : (a : Bool) → both a false ≡ false
-both_none true = refl
-both_none false = refl
-
-module _ (reserved size base backward : ℕ) where
-  pub low : reserved < 20 → false ≡ in_range reserved size base backward
-  low h = rw (lt-leb 20 reserved h)
-
-  pub high : 64 < reserved → false ≡ in_range reserved size base backward
-  high h = rw (lt-leb reserved 64 h, both_none (leb 20 reserved))
-
-  by_size : sized size ≡ false → false ≡ in_range reserved size base backward
-  by_size e = rw (e, both_none (both (leb 20 reserved) (leb reserved 64)))
-
-  pub small : size < 512 → false ≡ in_range reserved size base backward
-  small h = by_size (rw (lt-leb 512 size h))
-
-  pub large : 16384 < size → false ≡ in_range reserved size base backward
-  large h = by_size (rw (lt-leb size 16384 h, both_none (leb 512 size)))
-
-  pub uneven : (size % 512 ≡ 0 → ⊥) → false ≡ in_range reserved size base backward
-  uneven h = by_size (rw (ne_eqb (size % 512) 0 h, both_none (both (leb 512 size) (leb size 16384))))
-
-  pub beyond : 4294967295 < base + size → false ≡ in_range reserved size base backward
-  beyond h = rw (lt-leb (base + size) 4294967295 h, both_none (sized size), both_none (both (leb 20 reserved) (leb reserved 64)))
-
-  pub last : 20 ≤ reserved → reserved ≤ 64 → 512 ≤ size → size ≤ 16384 → size % 512 ≡ 0 → base + size ≤ 4294967295
-      → leb backward 1 ≡ in_range reserved size base backward
-  last a b c d e f = rw (le-leb 20 reserved a, le-leb reserved 64 b, le-leb 512 size c, le-leb size 16384 d, eq-eqb (size % 512) 0 e, le-leb (base + size) 4294967295 f)
+use Rattle.refusal.specs.declared.Refusal.{Refusal}
+use Rattle.refusal.specs.declared.Refusal.TheVariants.{BodyMalformed}
 
 -- a message, by what is judged of it
 module _ (m : List ℕ) where
-  pub short : length m < least_size → request m ≡ none
+  pub short : length m < least_size → request m ≡ None
   unfolding request
   short h = rw (lt-leb least_size (length m) h)
 
-  pub unfit : least_size ≤ length m → in_range (number_at 4 m reserved_at) (number_at 4 m size_at) (number_at 4 m base_at) (number_at 4 m backward_at) ≡ false → request m ≡ none
+  pub unfit : least_size ≤ length m → in_range (number_at 4 m reserved_at) (number_at 4 m size_at) (number_at 4 m base_at) (number_at 4 m backward_at) ≡ false → request m ≡ None
   unfolding request
   unfit h e = rw (le-leb least_size (length m) h, e)
 
   pub seek_unfit : least_size ≤ length m → in_range (number_at 4 m reserved_at) (number_at 4 m size_at) (number_at 4 m base_at) (number_at 4 m backward_at) ≡ true
-      → seek_fits (length m) (number_at 4 m seek_at) (number_at 4 m seek_size_at) ≡ false → request m ≡ none
+      → seek_fits (length m) (number_at 4 m seek_at) (number_at 4 m seek_size_at) ≡ false → request m ≡ None
   unfolding request
   seek_unfit h e f = rw (le-leb least_size (length m) h, e, f)
 
   pub read_whole : least_size ≤ length m → in_range (number_at 4 m reserved_at) (number_at 4 m size_at) (number_at 4 m base_at) (number_at 4 m backward_at) ≡ true
-      → seek_fits (length m) (number_at 4 m seek_at) (number_at 4 m seek_size_at) ≡ true → request m ≡ some (asked (number_at 4 m reserved_at) m)
+      → seek_fits (length m) (number_at 4 m seek_at) (number_at 4 m seek_size_at) ≡ true → request m ≡ Some (asked (number_at 4 m reserved_at) m)
   unfolding request
   read_whole h e f = rw (le-leb least_size (length m) h, e, f)
 
-pub reserved_small : (reserved size base backward : ℕ) → in_range reserved size base backward ≡ true → reserved ≤ 64
-reserved_small reserved size base backward e = leb-true reserved 64 (both_right (leb 20 reserved) _ (both_left (both (leb 20 reserved) (leb reserved 64)) _ e))
-
 -- a request that was read keeps the limits
-pub request_sound : (m : List ℕ) (q : Request) → request m ≡ some q → Sound q
+pub request_sound : (m : List ℕ) (q : Request) → request m ≡ Some q → Sound q
 unfolding request
 request_sound m q e =
     by_test (well_formed m)
@@ -94,7 +62,7 @@ request_sound m q e =
           reach = leb-true (number_at 4 m base_at + number_at 4 m size_at) 4294967295 reach-in;
         }
 
-pub request_handle : (m : List ℕ) (q : Request) → request m ≡ some q → q.handle ≡ number_at 4 m handle_at
+pub request_handle : (m : List ℕ) (q : Request) → request m ≡ Some q → q.handle ≡ number_at 4 m handle_at
 unfolding request
 request_handle m q e =
     by_test (well_formed m)
@@ -102,10 +70,10 @@ request_handle m q e =
     (λ w. absurd (none≢some (rw w at e)))
 
 -- what the reader's answer says of the body
-pub asked_is : (o : Option Request) {q : Request} → asking o ≡ Asked q → o ≡ some q
-asked_is none e = let z : ◌≡◌ {A = ℕ} 0 1 = cc e in absurd (omega arith)
-asked_is (some q) e = ap some (cc e)
+pub asked_is : (o : Option Request) {q : Request} → asking o ≡ Ok q → o ≡ Some q
+asked_is None e = grind arith
+asked_is (Some q) e = ap Some (cc e)
 
-pub malformed_is : (o : Option Request) → asking o ≡ Malformed → o ≡ none
-malformed_is none e = refl
-malformed_is (some q) e = let z : ◌≡◌ {A = ℕ} 0 1 = cc e in absurd (omega arith)
+pub malformed_is : (o : Option Request) {r : Refusal} → asking o ≡ Err r → (o ≡ None) × (r ≡ BodyMalformed)
+malformed_is None e = (refl, sym (cc e))
+malformed_is (Some q) e = grind arith

@@ -19,7 +19,7 @@ use Rattle.page.proofs.Greatest.{returned_is, returned_room}
 use Rattle.page.proofs.Reply.{page_is}
 use Rattle.fetch.specs.Fetch.{remaining, early_causes, sent, rows_sent, then_left}
 use Rattle.fetch.specs.FetchReady.{FetchReady}
-use Rattle.fetch.proofs.Facts.{count_is, count_most, position_most, all_rows, bindings_fit, words_ready}
+use Rattle.fetch.proofs.Facts.{count_is, count_most, position_most, all_rows, bindings_fit}
 use Rattle.page.specs.declared.Sheet.{Sheet}
 use Rattle.page.specs.PageTold.{Paged}
 use Rattle.fetch.specs.FetchTold.{RowsSent}
@@ -73,7 +73,6 @@ module _ (b s places : List ℕ) (q : Request) (buffer : ℕ) (r : FetchReady b 
     pub page_ready : PageReady buffer (part b records_at records_size) sheet_for (length numbers_left)
     page_ready =
         record {
-          long = (words_ready b s places q buffer r e).long;
           fits = bindings_fit b s places q buffer r e;
           head = r.sound.from_least;
           few = omega (arith, length-take (50 + get_or b 2 0 - (50 + get_or b 1 0)) (drop (50 + get_or b 1 0) b), count_most b s places q buffer r);

@@ -1,6 +1,6 @@
 -- What is known before rows are fetched.
 use Rattle.std.specs.Prelude.{◌≡◌, true, List, ℕ, ◌≤◌, length}
-use Rattle.std.proofs.Math.Option.{some}
+use Rattle.std.specs.Prelude.{Some}
 use Rattle.catalogue.specs.Plain.{catalogue, rows_of}
 use Rattle.catalogue.specs.CatalogueReady.{PlacesReady}
 use Rattle.table.specs.Seat.{cursor_words, cursor_held}
@@ -12,9 +12,9 @@ use Rattle.fetch.specs.Request.{Sound}
 -- the words of an open cursor that passes, whose row numbers the catalogue has, its rows at their places, a sound request, and
 -- a buffer with room for the reply
 pub record FetchReady (b s places : List ℕ) (q : Request) (buffer : ℕ) : Type 0 where
-  pub held : b ≡ cursor_words (some (cursor_held b))
+  pub held : b ≡ cursor_words (Some (cursor_held b))
   pub fits : CursorFits (cursor_held b)
-  pub below : cursor_below (length (rows_of (catalogue s))) (some (cursor_held b)) ≡ true
+  pub below : cursor_below (length (rows_of (catalogue s))) (Some (cursor_held b)) ≡ true
   pub placed : PlacesReady s places
   pub sound : Sound q
   pub room : q.size ≤ buffer

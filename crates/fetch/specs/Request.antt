@@ -1,7 +1,7 @@
 -- The body of a request for rows (01, "Rows"): "_hCursor, _cRowsToTransfer, _cbRowWidth, _cbSeek, _cbReserved, _cbReadBuffer,
 -- _ulClientBase, _fBwdFetch, eType, _chapt, seek". Places count from the message's first byte, so the body begins at 16.
 use Rattle.std.specs.Prelude.{Bool, true, List, ℕ, ◌+◌, ◌%◌, ◌≤◌, leb, eqb, length}
-use Rattle.std.proofs.Math.Option.{Option, none, some}
+use Rattle.std.specs.Prelude.{Option, None, Some}
 use Rattle.lists.specs.Below.{pick, both}
 use Rattle.wire.specs.Word.{number_at}
 use Rattle.fetch.specs.declared.Request.{Request}
@@ -89,7 +89,7 @@ well_formed m =
 
 -- the request, or none where the body is malformed (refusal 9)
 unfoldable pub request : List ℕ → Option Request
-request m = pick (well_formed m) (some (asked (number_at 4 m reserved_at) m)) none
+request m = pick (well_formed m) (Some (asked (number_at 4 m reserved_at) m)) None
 
 -- what the limits leave of a request's values
 pub record Sound (q : Request) : Type 0 where

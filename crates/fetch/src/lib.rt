@@ -18,10 +18,3 @@ pub struct Request {
     pub chapter: u32,
     pub skip: u32,
 }
-
-// A request, or a body that refusal 9 names.
-#[derive(Clone, Copy)]
-pub enum Asking {
-    Asked(Request),
-    Malformed,
-}

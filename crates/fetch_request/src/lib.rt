@@ -2,14 +2,15 @@
 #![tactic(auto)]
 
 ghost use Rattle.std.specs.Prelude.{◌≡◌, ◌≤◌, length};
-ghost use Rattle.table.specs.Layout.{cursor_size};
 ghost use Rattle.table.specs.Seat.{cursor_held};
 ghost use Rattle.refusal.specs.Refusal.{first_cause};
+ghost use Rattle.refusal.specs.Numbers.{judged};
 ghost use Rattle.fetch.specs.Request.{least_size, in_range, seek_fits, asked, request};
 ghost use Rattle.fetch.specs.Asking.{asking};
 ghost use Rattle.fetch.specs.Fetch.{not_served, early_causes};
 
-use fetch::{Asking, Request};
+use fetch::Request;
+use refusal::Refusal;
 
 const ASKED_AT: usize = 20;
 
@@ -41,39 +42,18 @@ const NEXT: u32 = 1;
 fn in_range(reserved: u32, size: u32, base: u32, backward: u32) -> bool
     ensures { result ≡ in_range reserved size base backward }
 {
-    if reserved < 20 {
-        return false;
-    }
-    if 64 < reserved {
-        return false;
-    }
-    if size < 512 {
-        return false;
-    }
-    let most = wire::MESSAGE_MOST as u32;
-    if most < size {
-        return false;
-    }
-    if size % 512 != 0 {
-        return false;
-    }
-    if 0xFFFF_FFFF < (base as u64) + (size as u64) {
-        return false;
-    }
-    backward <= 1
+    (20..=64).contains(&reserved)
+        && (512..=wire::MESSAGE_MOST as u32).contains(&size)
+        && size % 512 == 0
+        && u64::from(base) + u64::from(size) <= 0xFFFF_FFFF
+        && backward <= 1
 }
 
 // The size of the seek, which is judged for one kind of seek only.
 fn seek_fits(length: usize, seek: u32, told: u32) -> bool
     ensures { result ≡ seek_fits length seek told }
 {
-    if seek != NEXT {
-        return true;
-    }
-    if length != NEXT_SIZE {
-        return false;
-    }
-    told == 12
+    seek != NEXT || (length == NEXT_SIZE && told == 12)
 }
 
 // The values of a message that is long enough.
@@ -96,56 +76,43 @@ fn values(message: &[u8], reserved: u32) -> Request
 }
 
 // Reads the body of a message.
-pub fn read(message: &[u8]) -> Asking
+pub fn read(message: &[u8]) -> Result<Request, Refusal>
     ensures { result ≡ asking (request message.now) }
 {
     if message.len() < LEAST_SIZE {
-        return Asking::Malformed;
+        return Err(Refusal::BodyMalformed);
     }
     let reserved = wire_word::word(message, RESERVED_AT);
     let size = wire_word::word(message, SIZE_AT);
     let base = wire_word::word(message, BASE_AT);
     let backward = wire_word::word(message, BACKWARD_AT);
-    if !in_range(reserved, size, base, backward) {
-        return Asking::Malformed;
-    }
     let seek = wire_word::word(message, SEEK_AT);
     let told = wire_word::word(message, SEEK_SIZE_AT);
-    if !seek_fits(message.len(), seek, told) {
-        return Asking::Malformed;
+    if in_range(reserved, size, base, backward) && seek_fits(message.len(), seek, told) {
+        Ok(values(message, reserved))
+    } else {
+        Err(Refusal::BodyMalformed)
     }
-    Asking::Asked(values(message, reserved))
 }
 
 // A request that refusal 13 names.
 fn not_served(request: Request) -> bool
     ensures { result ≡ not_served request }
 {
-    if request.seek != NEXT {
-        return true;
-    }
-    if request.chapter != 0 {
-        return true;
-    }
-    if request.skip != 0 {
-        return true;
-    }
-    request.backward != 0
+    request.seek != NEXT || request.chapter != 0 || request.skip != 0 || request.backward != 0
 }
 
 // Refusals 11 to 13, of a cursor's words.
-pub fn judge(cursor: &[u32], request: Request) -> u32
-    requires { length cursor.now ≡ cursor_size }
-    ensures { result ≡ first_cause (early_causes (cursor_held cursor.now) request) }
+pub fn judge(cursor: &[u32; table::CURSOR_SIZE], request: Request) -> Result<(), Refusal>
+    ensures { result ≡ judged (first_cause (early_causes (cursor_held cursor.now) request)) }
 {
     if cursor[table::COLUMNS] == 0 {
-        return 11;
+        Err(Refusal::Unbound)
+    } else if request.width != cursor[table::WIDTH] {
+        Err(Refusal::BindingsUnfit)
+    } else if not_served(request) {
+        Err(Refusal::SeekNotServed)
+    } else {
+        Ok(())
     }
-    if request.width != cursor[table::WIDTH] {
-        return 12;
-    }
-    if not_served(request) {
-        return 13;
-    }
-    0
 }

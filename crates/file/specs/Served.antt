@@ -1,10 +1,13 @@
 -- What a line of a calls file does (README, "Replaying recorded calls"): the answer's text, the table afterwards, and the catalogue that
 -- is lent from there on.
 use Rattle.std.specs.Prelude.{◌≡◌, false, List, [], ◌++◌, ℕ, ◌+◌, ◌/◌, ◌%◌, ◌≤◌, ◌*◌, length, take, drop, set}
+use Rattle.std.specs.Prelude.{Result, Ok, Err}
 use Rattle.wire.specs.Laid.{lay}
 use Rattle.line.specs.Digits.{hex_bytes}
 use Rattle.line.specs.Line.{catalogue_most, room_most}
 use Rattle.lists.specs.Parts.{between}
+use Rattle.line.specs.declared.Reason.{Reason}
+use Rattle.line.specs.declared.Digits.{Digits}
 use Rattle.line.specs.declared.Call.{Call}
 use Rattle.line.specs.declared.Call.TheVariants as call
 use Rattle.line.specs.Text.{Put}
@@ -38,15 +41,26 @@ opened o = record { text = open_text o.refusal o.handle; words = o.words }
 abbrev pub replied : Outcome → Answer
 replied o = record { text = message_text o.refusal (length o.reply) o.reply; words = o.words }
 
--- the answer to the call that a line is, with its number, on a table and a lent catalogue
-abbrev pub answer_to : Call → List ℕ → ℕ → List ℕ → List ℕ → Answer
-answer_to call.Nothing line number t s = silent t
-answer_to (call.Fault reason) line number t s = record { text = error_text number reason; words = t }
-answer_to (call.Catalogue first last) line number t s = silent t
-answer_to (call.Connect seat version) line number t s = connected (connect_step (sources_of s) t seat version)
-answer_to (call.Open seat first last) line number t s = opened (open_step (sources_of s) t seat (hex_bytes (between first last line)))
-answer_to (call.Message seat room first last) line number t s = replied (message_step (sources_of s) t seat (hex_bytes (between first last line)) room)
-answer_to (call.Word index value) line number t s = silent (set t index value)
+-- the hex digits of a word of a line, and the bytes that they spell
+abbrev pub digits_of : Digits → List ℕ → List ℕ
+digits_of hex line = between hex.first hex.last line
+
+abbrev pub bytes_of : Digits → List ℕ → List ℕ
+bytes_of hex line = hex_bytes (digits_of hex line)
+
+-- the answer to a call of a line, on a table and a lent catalogue
+abbrev pub answer_of : Call → List ℕ → List ℕ → List ℕ → Answer
+answer_of call.Nothing line t s = silent t
+answer_of (call.Catalogue hex) line t s = silent t
+answer_of (call.Connect seat version) line t s = connected (connect_step (sources_of s) t seat version)
+answer_of (call.Open seat tree) line t s = opened (open_step (sources_of s) t seat (bytes_of tree line))
+answer_of (call.Message seat room bytes) line t s = replied (message_step (sources_of s) t seat (bytes_of bytes line) room)
+answer_of (call.Word index value) line t s = silent (set t index value)
+
+-- the answer to a line, with its number
+abbrev pub answer_to : Result Call Reason → List ℕ → ℕ → List ℕ → List ℕ → Answer
+answer_to (Ok call) line number t s = answer_of call line t s
+answer_to (Err reason) line number t s = record { text = error_text number reason; words = t }
 
 -- the answer as what a function leaves: the text is laid in the output from a place on, and the place after it is told; it takes
 -- no more than `answer_most` bytes
@@ -65,17 +79,18 @@ abbrev pub lent_of : ℕ → List ℕ → Lent
 lent_of size buffer = record { size = size; buffer = buffer }
 
 -- "lends this catalogue from here on"
-abbrev pub lent_by : Call → List ℕ → Lent → Lent
-lent_by call.Nothing line l = l
-lent_by (call.Fault reason) line l = l
-lent_by (call.Catalogue first last) line l =
-    lent_of
-    (length (between first last line) / 2)
-    (hex_bytes (between first last line) ++ drop (length (between first last line) / 2) l.buffer)
-lent_by (call.Connect seat version) line l = l
-lent_by (call.Open seat first last) line l = l
-lent_by (call.Message seat room first last) line l = l
-lent_by (call.Word index value) line l = l
+abbrev pub lent_of_call : Call → List ℕ → Lent → Lent
+lent_of_call call.Nothing line l = l
+lent_of_call (call.Catalogue hex) line l =
+    lent_of (length (digits_of hex line) / 2) (bytes_of hex line ++ drop (length (digits_of hex line) / 2) l.buffer)
+lent_of_call (call.Connect seat version) line l = l
+lent_of_call (call.Open seat tree) line l = l
+lent_of_call (call.Message seat room bytes) line l = l
+lent_of_call (call.Word index value) line l = l
+
+abbrev pub lent_by : Result Call Reason → List ℕ → Lent → Lent
+lent_by (Ok call) line l = lent_of_call call line l
+lent_by (Err reason) line l = l
 
 -- the same as what a function leaves; the size is at most that of a catalogue
 pub record Lends (l : Lent) (r : ℕ) (exit : List ℕ) : Type 0 where
@@ -87,7 +102,7 @@ pub record Lends (l : Lent) (r : ℕ) (exit : List ℕ) : Type 0 where
 abbrev pub bytes_kept : List ℕ → Place → List ℕ
 bytes_kept line p = take p.kept line
 
-abbrev pub call_kept : List ℕ → Place → Call
+abbrev pub call_kept : List ℕ → Place → Result Call Reason
 call_kept line p = kept_call (bytes_kept line p) p.cut
 
 abbrev pub answer_kept : List ℕ → Place → List ℕ → List ℕ → Answer

@@ -4,7 +4,7 @@
 
 ghost use Rattle.std.specs.Prelude.{◌≡◌, ◌≤◌, length};
 ghost use Rattle.std.specs.Io.{StartsWith};
-ghost use Rattle.line.specs.CallReady.{CallReady};
+ghost use Rattle.line.specs.CallReady.{LineReady};
 ghost use Rattle.line.specs.Kept.{Kept, kept_call, waits};
 ghost use Rattle.line.specs.PlaceReady.{PlaceReady};
 
@@ -19,38 +19,27 @@ pub fn keep(line: &mut [u8], place: Place, part: &[u8]) -> Place
 {
     let kept = place.kept;
     let room = line.len() - kept;
-    if room < part.len() {
-        wire_copy::lay_bytes(line, kept, &part[0..room]);
-        return Place {
-            number: place.number,
-            kept: kept + room,
-            cut: true,
-            catalogue: place.catalogue,
-            used: place.used,
-        };
-    }
-    wire_copy::lay_bytes(line, kept, part);
+    let count = part.len().min(room);
+    wire_copy::lay_bytes(line, kept, &part[..count]);
     Place {
-        number: place.number,
-        kept: kept + part.len(),
-        cut: place.cut,
-        catalogue: place.catalogue,
-        used: place.used,
+        kept: kept + count,
+        cut: place.cut || room < part.len(),
+        ..place
     }
 }
 
 // The call that the kept bytes are. A line that was cut is too long, unless the cut is in its comment.
-pub fn call_of(line: &[u8], cut: bool) -> Call
-    ensures { (result ≡ kept_call line.now cut) × CallReady (length line.now) result }
+pub fn call_of(line: &[u8], cut: bool) -> Result<Call, Reason>
+    ensures { (result ≡ kept_call line.now cut) × LineReady (length line.now) result }
 {
     let end = line_word::before_comment(line);
     if end < line.len() {
-        return line_call::read(&line[0..end]);
+        line_call::read(&line[..end])
+    } else if cut {
+        Err(Reason::TooLong)
+    } else {
+        line_call::read(line)
     }
-    if cut {
-        return Call::Fault(Reason::TooLong);
-    }
-    line_call::read(line)
 }
 
 // Writes the waiting output where it is more than so much. Answers how much waits then.
@@ -61,9 +50,8 @@ pub fn written<R: Print + Eprint>(rt: &R, out: &[u8], used: usize, most: usize) 
     if used <= most {
         return used;
     }
-    match rt.write_all(&out[0..used]) {
-        Ok(()) => {}
-        Err(error) => fail(rt, "replay: standard output", error),
+    if let Err(error) = rt.write_all(&out[..used]) {
+        fail(rt, "replay: standard output", error);
     }
     0
 }

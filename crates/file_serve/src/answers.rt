@@ -1,30 +1,32 @@
 // One call of a calls file: it is served, and the answer is laid in the output.
-ghost use Rattle.std.specs.Prelude.{◌+◌, ◌/◌, ◌<◌, ◌≤◌, length};
+ghost use Rattle.refusal.specs.Numbers.{refusal_number};
+ghost use Rattle.std.specs.Prelude.{◌≡◌, ◌+◌, ◌/◌, ◌<◌, ◌≤◌, length};
 ghost use Rattle.line.specs.Digits.{hex_bytes};
 ghost use Rattle.line.specs.Line.{bytes_most, catalogue_most, index_most, room_most};
-ghost use Rattle.line.specs.CallReady.{CallReady};
+ghost use Rattle.line.specs.CallReady.{CallReady, LineReady};
 ghost use Rattle.call.specs.Step.{sources_of, message_step, open_step};
-ghost use Rattle.file.specs.Served.{answer_most, opened, replied, answer_to, Serves, lent_of, lent_by, Lends};
+ghost use Rattle.file.specs.Served.{answer_most, opened, replied, answer_of, answer_to, Serves, lent_of, lent_by, Lends};
 
-use line::Call;
-use message::Answered;
-use query::Opened;
-use table::Seat;
+use line::{Call, Reason};
+use refusal::Refusal;
+use table::{Handle, Seat};
 
 // The catalogue that is lent from this line on. Answers its length.
-pub fn lend(call: Call, line: &[u8], catalogue: &mut [u8], lent: usize) -> usize
-    requires { CallReady (length line.now) call × (lent ≤ catalogue_most) × (catalogue_most ≤ length catalogue.old) }
+pub fn lend(call: Result<Call, Reason>, line: &[u8], catalogue: &mut [u8], lent: usize) -> usize
+    requires { LineReady (length line.now) call × (lent ≤ catalogue_most) × (catalogue_most ≤ length catalogue.old) }
     ensures { Lends (lent_by call line.now (lent_of lent catalogue.old)) result catalogue.new }
 {
     match call {
-        Call::Nothing => lent,
-        Call::Fault(_) => lent,
-        Call::Catalogue(first, last) => line_answer::load(&line[first..last], catalogue),
-        Call::Connect(_, _) => lent,
-        Call::Open(_, _, _) => lent,
-        Call::Message(_, _, _, _) => lent,
-        Call::Word(_, _) => lent,
+        Ok(Call::Catalogue(hex)) => line_answer::load(&line[hex.first..hex.last], catalogue),
+        _ => lent,
     }
+}
+
+// The number of a refusal.
+fn number_of(refusal: Refusal) -> u32
+    ensures { result ≡ refusal_number refusal }
+{
+    refusal as u32
 }
 
 // Serves a message, with a reply buffer that is filled first.
@@ -44,10 +46,15 @@ fn reply(
         used result table.new out.old out.new }
 {
     line_text::fill(space);
-    let answered: Answered = call_message::message(table, catalogue, seat, bytes, space);
-    let refusal = answered.refusal;
-    let count = answered.count;
-    line_answer::put_message(out, used, refusal, space, count as usize)
+    let answered = call_message::message(table, catalogue, seat, bytes, space);
+    let count = message_gate::count(answered);
+    match answered {
+        Ok(_) => line_answer::put_message(out, used, 0, space, count as usize),
+        Err(refused) => {
+            let refusal = number_of(refused);
+            line_answer::put_message(out, used, refusal, space, count as usize)
+        }
+    }
 }
 
 // Serves the message whose digits stand in a part of the line.
@@ -97,15 +104,58 @@ fn open(
 {
     let mut bytes = [0u8; line::BYTES_MOST];
     let size = line_answer::load(digits, &mut bytes);
-    let opened: Opened = call_open::open(table, catalogue, seat, &bytes[0..size]);
-    let refusal = opened.refusal;
-    let handle = opened.handle;
-    line_answer::put_open(out, used, refusal, handle)
+    match call_open::open(table, catalogue, seat, &bytes[0..size]) {
+        Ok(handle) => line_answer::put_open(out, used, 0, handle),
+        Err(refused) => {
+            let refusal = number_of(refused);
+            line_answer::put_open(out, used, refusal, Handle(0))
+        }
+    }
 }
 
-// Serves the call that the line is. Answers how many bytes of the output are then in use.
-pub fn serve(
+// Serves a call of the line. Answers how many bytes of the output are then in use.
+fn answer(
     call: Call,
+    line: &[u8],
+    table: &mut [u32],
+    catalogue: &[u8],
+    out: &mut [u8],
+    used: usize,
+) -> usize
+    requires { CallReady (length line.now) call × (index_most < length table.old) × (used + answer_most ≤ length out.old) }
+    ensures { Serves (answer_of call line.now table.old catalogue.now) used result table.new out.old out.new }
+{
+    match call {
+        Call::Nothing => used,
+        Call::Catalogue(_) => used,
+        Call::Connect { seat, version } => {
+            match call_connect::connect(table, catalogue, Seat(seat), version) {
+                Ok(()) => line_answer::put_connect(out, used, 0),
+                Err(refused) => {
+                    let refusal = number_of(refused);
+                    line_answer::put_connect(out, used, refusal)
+                }
+            }
+        }
+        Call::Open { seat, tree } => {
+            let digits = &line[tree.first..tree.last];
+            open(table, catalogue, Seat(seat), digits, out, used)
+        }
+        Call::Message { seat, room, bytes } => {
+            let digits = &line[bytes.first..bytes.last];
+            let room = room as usize;
+            message(table, catalogue, Seat(seat), room, digits, out, used)
+        }
+        Call::Word { index, value } => {
+            table[index as usize] = value;
+            used
+        }
+    }
+}
+
+// Serves the call that the line is, or tells why it is none. Answers how many bytes of the output are then in use.
+pub fn serve(
+    call: Result<Call, Reason>,
     line: &[u8],
     number: u64,
     table: &mut [u32],
@@ -113,32 +163,14 @@ pub fn serve(
     out: &mut [u8],
     used: usize,
 ) -> usize
-    requires { CallReady (length line.now) call × (index_most < length table.old)
+    requires { LineReady (length line.now) call × (index_most < length table.old)
         × (used + answer_most ≤ length out.old) }
     ensures { Serves
         (answer_to call line.now number table.old catalogue.now)
         used result table.new out.old out.new }
 {
     match call {
-        Call::Nothing => used,
-        Call::Fault(reason) => line_answer::put_error(out, used, number, reason),
-        Call::Catalogue(_, _) => used,
-        Call::Connect(k, version) => {
-            let refusal = call_connect::connect(table, catalogue, Seat(k), version);
-            line_answer::put_connect(out, used, refusal)
-        }
-        Call::Open(k, first, last) => {
-            let digits = &line[first..last];
-            open(table, catalogue, Seat(k), digits, out, used)
-        }
-        Call::Message(k, room, first, last) => {
-            let digits = &line[first..last];
-            message(table, catalogue, Seat(k), room as usize, digits, out, used)
-        }
-        Call::Word(index, value) => {
-            let at = index as usize;
-            table[at] = value;
-            used
-        }
+        Ok(call) => answer(call, line, table, catalogue, out, used),
+        Err(reason) => line_answer::put_error(out, used, number, reason),
     }
 }

@@ -2,7 +2,6 @@ pub mod RunLaws
 pub mod TextLaws
 pub mod Numeral
 pub mod DigitLaws
-pub mod LineLaws
 pub mod Short
 pub mod Fitting
 pub mod Once

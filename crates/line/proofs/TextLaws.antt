@@ -1,14 +1,15 @@
 -- Where each hex digit stands, and how a change is found. Assumes nothing.
 use mathlib.Core.Path.{◌≡◌, refl, sym, ◌∙◌}
-use mathlib.Core.Bool.{Bool, true, false}
+use mathlib.Core.Bool.{Bool, true, false, not, ◌||◌}
 use mathlib.Core.List.{List, [], ◌∷◌, ◌++◌}
-use Prim.Native.Nat.{ℕ, zero, suc, ◌+◌, ◌*◌, ◌/◌, ◌%◌, ◌≤◌, ◌<◌}
-use native.Mathlib.Numerals.{add-one}
+use Prim.Native.Nat.{ℕ, zero, suc, ◌+◌, ◌*◌, ◌/◌, ◌%◌, ◌≤◌, ◌<◌, min}
 use native.Mathlib.Omega.{arith}
-use lib.ListN.{length, get_or, drop, set, drop_of_length-le, length-append, take-append-drop}
-use lib.Seq.{drop-cons, paste, paste-suc}
-use borrow.Author.Tests.{eq-eqb, ne_eqb}
-use Rattle.lists.specs.Below.{either}
+use lib.ListN.{length, get_or, set, length-append, take-append-drop, drop, drop_of_length-le}
+use lib.Seq.{paste, paste-suc}
+use borrow.Author.Tests.{leb-true, leb-false}
+use lib.Dec.{eqb, leb}
+use Rattle.lists.proofs.Below.{by_test}
+use Rattle.lists.specs.Below.{pick, either}
 use Rattle.wire.specs.Laid.{lay}
 use Rattle.wire.proofs.Lay.{lay_join}
 use Rattle.line.specs.Text.{Put, glyph, hex_pairs, hex_text, fill_byte, changed}
@@ -58,28 +59,19 @@ unfolding hex_text
 hex_short [] = omega arith
 hex_short (b ∷ s) = let e = pairs_length (b ∷ s) in omega arith
 
--- a byte that changed, one that did not, the end
-module _ (s : List ℕ) (i : ℕ) where
-  pub changed_here : i < length s → (get_or s i 0 ≡ fill_byte → ⊥) → changed (drop i s) ≡ true
-  unfolding changed
-  changed_here h e = rw (drop-cons s i 0 h, ne_eqb (get_or s i 0) 170 e)
-
-  pub changed_later : i < length s → get_or s i 0 ≡ fill_byte → changed (drop i s) ≡ changed (drop (i + 1) s)
-  unfolding changed
-  changed_later h e = rw (add-one, drop-cons s i 0 h, eq-eqb (get_or s i 0) 170 e)
-
-  pub changed_never : length s ≤ i → changed (drop i s) ≡ false
-  unfolding changed
-  changed_never h = rw (drop_of_length-le s h)
-
--- a flag that is set stays the answer, and at the end it is the answer
-pub found_now : (a b : Bool) → b ≡ true → either a b ≡ true
-found_now true b e = refl
-found_now false b e = e
-
-pub found_only : (a b : Bool) → b ≡ false → either a b ≡ a
-found_only true b e = refl
-found_only false b e = e
+-- one byte more: whether one before it changed, or it
+pub changed_snoc : (s : List ℕ) (b : ℕ) → changed (s ++ (b ∷ [])) ≡ (changed s || not (eqb b fill_byte))
+unfolding changed
+changed_snoc [] b = last (eqb b fill_byte)
+  where
+    last : (t : Bool) → either (pick t false true) false ≡ not t
+    last true = refl
+    last false = refl
+changed_snoc (a ∷ s) b = rw (changed_snoc s b) (apart (pick (eqb a fill_byte) false true) (changed s) (not (eqb b fill_byte)))
+  where
+    apart : (p q r : Bool) → either p (q || r) ≡ (either p q || r)
+    apart true q r = refl
+    apart false q r = refl
 
 -- a text after another is both in one
 pub put_then : {s t : List ℕ} {at m r : ℕ} {a b c : List ℕ} → Put s at m a b → Put t m r b c → m ≤ length a → Put (s ++ t) at r a c
@@ -99,3 +91,11 @@ put_none at a = record { next = omega arith; laid = rw none (sym (take-append-dr
   where
     none : at + 0 ≡ at
     none = omega arith
+
+-- a place past the end is the end
+pub drop_past : (s : List ℕ) (k m : ℕ) → m ≡ min k (length s) → drop m s ≡ drop k s
+drop_past s k m e =
+    by_test (leb k (length s))
+    (λ q. let same : m ≡ k = omega (arith, e, leb-true k (length s) q) in rw same)
+    (λ q. let far : length s ≤ k = omega (arith, leb-false k (length s) q) in let near : length s ≤ m = omega (arith, e, far) in
+    rw (drop_of_length-le s near, drop_of_length-le s far))

@@ -1,36 +1,30 @@
 -- Numbers and bytes of a calls file (README, "Replaying recorded calls").
-use Rattle.std.specs.Prelude.{Bool, true, false, not, List, [], ◌∷◌, ℕ, ◌+◌, ◌-◌, ◌*◌, ◌%◌, eqb, leb, ltb}
-use Rattle.std.proofs.Math.Option.{Option, none, some}
+use Rattle.std.specs.Prelude.{Bool, true, false, List, [], ◌∷◌, ℕ, ◌+◌, ◌-◌, ◌*◌, ◌%◌, eqb, leb}
+use Rattle.std.specs.Prelude.{Option, None, Some, is_some, unwrap_or}
 use Rattle.lists.specs.Below.{pick, both}
-use Rattle.line.specs.declared.Spelled.{Spelled}
-use Rattle.line.specs.declared.Spelled.TheVariants.{Is, Bad}
 
 -- what digits spell that follow a value
 unfoldable pub spelled : ℕ → List ℕ → Option ℕ
-spelled v [] = some v
-spelled v (b ∷ s) = pick (both (leb 48 b) (leb b 57)) (spelled (v * 10 + (b - 48)) s) none
+spelled v [] = Some v
+spelled v (b ∷ s) = pick (both (leb 48 b) (leb b 57)) (spelled (v * 10 + (b - 48)) s) None
 
 abbrev pub number_most : ℕ
 number_most = 4294967295
 
 abbrev pub within : Option ℕ → Option ℕ
-within none = none
-within (some v) = pick (leb v number_most) (some v) none
+within None = None
+within (Some v) = pick (leb v number_most) (Some v) None
 
 -- "Numbers are decimal, up to 4,294,967,295"
 unfoldable pub decimal : List ℕ → Option ℕ
 decimal s = within (spelled 0 s)
 
-abbrev pub told : Option ℕ → Spelled
-told none = Bad
-told (some v) = Is v
-
--- "hex digits of either case": the value of one, or 16 where it is none
-abbrev pub hex_digit : ℕ → ℕ
+-- "hex digits of either case": the value of one
+abbrev pub hex_digit : ℕ → Option ℕ
 hex_digit b =
-    pick (ltb b 48) 16 (pick (leb b 57) (b - 48)
-    (pick (ltb b 65) 16 (pick (leb b 70) (b - 55)
-    (pick (ltb b 97) 16 (pick (leb b 102) (b - 87) 16)))))
+    pick (both (leb 48 b) (leb b 57)) (Some (b - 48))
+    (pick (both (leb 65 b) (leb b 70)) (Some (b - 65 + 10))
+    (pick (both (leb 97 b) (leb b 102)) (Some (b - 97 + 10)) None))
 
 -- "or `-` for no bytes"
 unfoldable pub is_dash : List ℕ → Bool
@@ -39,7 +33,7 @@ is_dash (b ∷ []) = eqb b 45
 is_dash (b ∷ c ∷ s) = false
 
 abbrev pub is_hex_digit : ℕ → Bool
-is_hex_digit b = not (eqb (hex_digit b) 16)
+is_hex_digit b = is_some (hex_digit b)
 
 -- "HEX is pairs of hex digits of either case"
 unfoldable pub is_hex : List ℕ → Bool
@@ -47,8 +41,12 @@ is_hex [] = true
 is_hex (a ∷ []) = false
 is_hex (a ∷ b ∷ s) = both (is_hex_digit a) (both (is_hex_digit b) (is_hex s))
 
+-- a byte that is no digit counts as 16: no word of pairs has one
+abbrev pub digit_value : ℕ → ℕ
+digit_value b = unwrap_or (hex_digit b) 16
+
 abbrev pub pair_byte : ℕ → ℕ → ℕ
-pair_byte a b = (hex_digit a * 16 + hex_digit b) % 256
+pair_byte a b = (digit_value a * 16 + digit_value b) % 256
 
 -- the bytes that the pairs spell, the high digit first
 unfoldable pub hex_bytes : List ℕ → List ℕ

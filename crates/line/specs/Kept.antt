@@ -1,12 +1,12 @@
 -- A line as its bytes come, and the call that it is (README, "Replaying recorded calls").
-use Rattle.std.specs.Prelude.{◌≡◌, Bool, List, ℕ, ◌+◌, ◌-◌, ltb, leb, length, take}
+use Rattle.std.specs.Prelude.{◌≡◌, Bool, List, ℕ, ◌+◌, ◌-◌, ltb, leb, length, take, Result, Err}
 use Rattle.lists.specs.Below.{pick, either}
 use Rattle.wire.specs.Laid.{lay}
 use Rattle.line.specs.Runs.{run, in_call}
 use Rattle.line.specs.Line.{call_of}
+use Rattle.line.specs.declared.Reason.{Reason}
 use Rattle.line.specs.declared.Reason.TheVariants.{TooLong}
 use Rattle.line.specs.declared.Call.{Call}
-use Rattle.line.specs.declared.Call.TheVariants as call
 use Rattle.line.specs.declared.Place.{Place}
 
 -- the bytes of a part of a line that there is room for, after those that are kept
@@ -23,9 +23,9 @@ pub record Kept (line : List ℕ) (p : Place) (part : List ℕ) (r : Place) (exi
   pub used : r.used ≡ p.used
 
 -- "`#` starts a comment to the line's end": the call that stands before it. Without one, a line that was cut is "too long"
-abbrev pub kept_call : List ℕ → Bool → Call
+abbrev pub kept_call : List ℕ → Bool → Result Call Reason
 kept_call line cut =
-    pick (ltb (run in_call line) (length line)) (call_of (take (run in_call line) line)) (pick cut (call.Fault TooLong) (call_of line))
+    pick (ltb (run in_call line) (length line)) (call_of (take (run in_call line) line)) (pick cut (Err TooLong) (call_of line))
 
 -- how much of the output may wait before a line
 abbrev pub out_full : ℕ

@@ -26,11 +26,6 @@ separates b = either (eqb b 32) (either (eqb b 9) (eqb b 13))
 abbrev pub in_word : ℕ → Bool
 in_word b = not (separates b)
 
--- those that separate words, or those of words
-abbrev pub separators : Bool → ℕ → Bool
-separators true = separates
-separators false = in_word
-
 -- the first word from a place on begins at its first byte that is no separator, and ends before the next separator
 abbrev pub word_start : List ℕ → ℕ → ℕ
 word_start s at = at + run separates (drop at s)

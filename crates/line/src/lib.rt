@@ -3,14 +3,8 @@
 // constants; no function.
 #![tactic(auto)]
 
-#[derive(Clone, Copy)]
-pub enum Spelled {
-    Is(u32),
-    Bad,
-}
-
 // Why a line is no call.
-#[derive(Clone, Copy)]
+#[derive(Clone, Copy, Debug, PartialEq, Eq)]
 pub enum Reason {
     UnknownCall,
     MissingWord,
@@ -21,30 +15,22 @@ pub enum Reason {
     NoSuchWord,
 }
 
-// What a line is. Bytes are told by the places of their hex digits in the line, from the first to the one after the last.
+// The places of the hex digits of a word in its line: from the first to the one after the last.
+#[derive(Clone, Copy)]
+pub struct Digits {
+    pub first: usize,
+    pub last: usize,
+}
+
+// A call of a line, or a line without words. Bytes are told by their hex digits.
 #[derive(Clone, Copy)]
 pub enum Call {
     Nothing,
-    Fault(Reason),
-    Catalogue(usize, usize),
-    Connect(u32, u32),
-    Open(u32, usize, usize),
-    Message(u32, u32, usize, usize),
-    Word(u32, u32),
-}
-
-// A number word and the place after it.
-#[derive(Clone, Copy)]
-pub enum Number {
-    Is(u32, usize),
-    Fault(Reason),
-}
-
-// The places of the hex digits of a word, and the place after it.
-#[derive(Clone, Copy)]
-pub enum Hex {
-    Is(usize, usize, usize),
-    Fault(Reason),
+    Catalogue(Digits),
+    Connect { seat: u32, version: u32 },
+    Open { seat: u32, tree: Digits },
+    Message { seat: u32, room: u32, bytes: Digits },
+    Word { index: u32, value: u32 },
 }
 
 pub const CATALOGUE_MOST: usize = 32768;

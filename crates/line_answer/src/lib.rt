@@ -2,7 +2,7 @@
 // in the output.
 #![tactic(auto)]
 
-ghost use Rattle.std.specs.Prelude.{◌++◌, ◌+◌, ◌*◌, ◌/◌, ◌≤◌, length, take, drop};
+ghost use Rattle.std.specs.Prelude.{◌≡◌, ◌++◌, ◌+◌, ◌*◌, ◌/◌, ◌≤◌, length, take, drop};
 ghost use Rattle.line.specs.DigitsTold.{Loaded};
 ghost use Rattle.line.specs.Text.{Put, decimal_text, hex_text, changed};
 ghost use Rattle.line.specs.Answer.{reason_text, error_text, connect_text, open_text, end_text, message_text, plain};
@@ -11,18 +11,18 @@ use line::Reason;
 use line_text::{put, put_decimal, put_hex};
 use table::Handle;
 
-fn put_reason(out: &mut [u8], at: usize, reason: Reason) -> usize
-    requires { at + 12 ≤ length out.old }
-    ensures { Put (reason_text reason) at result out.old out.new }
+// Why a line is no call, in words.
+fn words(reason: Reason) -> &'static [u8]
+    ensures { (result.now ≡ reason_text reason) × (length result.now ≤ 12) }
 {
     match reason {
-        Reason::UnknownCall => put(out, at, b"unknown call"),
-        Reason::MissingWord => put(out, at, b"missing word"),
-        Reason::ExtraWord => put(out, at, b"extra word"),
-        Reason::BadNumber => put(out, at, b"bad number"),
-        Reason::BadHex => put(out, at, b"bad hex"),
-        Reason::TooLong => put(out, at, b"too long"),
-        Reason::NoSuchWord => put(out, at, b"no such word"),
+        Reason::UnknownCall => b"unknown call",
+        Reason::MissingWord => b"missing word",
+        Reason::ExtraWord => b"extra word",
+        Reason::BadNumber => b"bad number",
+        Reason::BadHex => b"bad hex",
+        Reason::TooLong => b"too long",
+        Reason::NoSuchWord => b"no such word",
     }
 }
 
@@ -42,7 +42,7 @@ pub fn put_error(out: &mut [u8], used: usize, line: u64, reason: Reason) -> usiz
 {
     let space = put_number(out, used, b"error ", line);
     let text = put(out, space, b" ");
-    let end = put_reason(out, text, reason);
+    let end = put(out, text, words(reason));
     put(out, end, b"\n")
 }
 
@@ -71,9 +71,10 @@ fn put_end(out: &mut [u8], at: usize, reply: &[u8], count: usize) -> usize
     ensures { Put (end_text (changed (drop count reply.now))) at result out.old out.new }
 {
     if line_text::spilled(reply, count) {
-        return put(out, at, b" spilled\n");
+        put(out, at, b" spilled\n")
+    } else {
+        put(out, at, b"\n")
     }
-    put(out, at, b"\n")
 }
 
 // The first bytes of a reply.
@@ -81,7 +82,7 @@ fn put_first(out: &mut [u8], at: usize, reply: &[u8], count: usize) -> usize
     requires { (at + 2 * length reply.now + 1 ≤ length out.old) × (count ≤ length reply.now) }
     ensures { Put (hex_text (take count reply.now)) at result out.old out.new }
 {
-    put_hex(out, at, &reply[0..count])
+    put_hex(out, at, &reply[..count])
 }
 
 // `message REFUSAL COUNT HEX`

@@ -2,194 +2,153 @@
 #![tactic(auto)]
 
 ghost use Rattle.std.specs.Prelude.{◌≡◌, ◌≤◌, length};
-ghost use Rattle.line.specs.Line.{number_word, hex_word, with_number, with_hex, whole, call_of};
-ghost use Rattle.line.specs.declared.Call.TheVariants.{Nothing};
-ghost use Rattle.line.specs.Line.{catalogue_from, connect_from, open_from, message_from, room_from, word_from};
-ghost use Rattle.line.specs.CallReady.{number_ends, hex_ends, CallReady};
+ghost use Rattle.line.specs.Line.{number_word, hex_word, whole, named, call_of};
+ghost use Rattle.line.specs.Line.{catalogue_from, connect_from, open_from, message_from, word_from};
+ghost use Rattle.line.specs.CallReady.{number_ends, hex_ends, CallReady, LineReady};
 
-use line::{BYTES_MOST, CATALOGUE_MOST, Call, Hex, INDEX_MOST, Number, ROOM_MOST, Reason, Spelled};
+use line::{BYTES_MOST, CATALOGUE_MOST, Call, Digits, INDEX_MOST, ROOM_MOST, Reason};
 
-// The number word from a place on.
-fn number_word(line: &[u8], at: usize) -> Number
+// The number word from a place on, and the place after it.
+#[tactic(auto, unfolding(line::specs::Line::number_word, line::specs::Line::number_in))]
+fn number_word(line: &[u8], at: usize) -> Result<(u32, usize), Reason>
     requires { at ≤ length line.now }
     ensures { (result ≡ number_word line.now at) × number_ends (length line.now) result }
 {
     let start = line_word::after_separators(line, at);
     let end = line_word::after_word(line, start);
     if start == end {
-        return Number::Fault(Reason::MissingWord);
+        return Err(Reason::MissingWord);
     }
-    match line_word::decimal(&line[start..end]) {
-        Spelled::Bad => Number::Fault(Reason::BadNumber),
-        Spelled::Is(value) => Number::Is(value, end),
-    }
+    let value = line_word::decimal(&line[start..end]).ok_or(Reason::BadNumber)?;
+    Ok((value, end))
 }
 
 // The hex word from a place on, of at most so many bytes. A `-` is none.
-fn hex_word(line: &[u8], at: usize, most: usize) -> Hex
+#[tactic(auto, unfolding(line::specs::Line::hex_word, line::specs::Line::hex_in))]
+fn hex_word(line: &[u8], at: usize, most: usize) -> Result<Digits, Reason>
     requires { at ≤ length line.now }
     ensures { (result ≡ hex_word most line.now at) × hex_ends most (length line.now) result }
 {
     let start = line_word::after_separators(line, at);
     let end = line_word::after_word(line, start);
+    let word = &line[start..end];
     if start == end {
-        return Hex::Fault(Reason::MissingWord);
+        Err(Reason::MissingWord)
+    } else if line_word::is_dash(word) {
+        Ok(Digits {
+            first: end,
+            last: end,
+        })
+    } else if !line_word::is_hex(word) {
+        Err(Reason::BadHex)
+    } else if most < (end - start) / 2 {
+        Err(Reason::TooLong)
+    } else {
+        Ok(Digits {
+            first: start,
+            last: end,
+        })
     }
-    if line_word::is_dash(&line[start..end]) {
-        return Hex::Is(end, end, end);
-    }
-    if !line_word::is_hex(&line[start..end]) {
-        return Hex::Fault(Reason::BadHex);
-    }
-    if most < (end - start) / 2 {
-        return Hex::Fault(Reason::TooLong);
-    }
-    Hex::Is(start, end, end)
 }
 
 // A call after whose last word, which ends at a place, no further word stands.
-fn whole(line: &[u8], at: usize, call: Call) -> Call
+fn whole(line: &[u8], at: usize, call: Call) -> Result<Call, Reason>
     requires { (at ≤ length line.now) × CallReady (length line.now) call }
-    ensures { (result ≡ whole line.now at call) × CallReady (length line.now) result }
+    ensures { (result ≡ whole line.now at call) × LineReady (length line.now) result }
 {
     if line_word::after_separators(line, at) < line.len() {
-        return Call::Fault(Reason::ExtraWord);
-    }
-    call
-}
-
-// What a line is whose number word, or hex word, does not read.
-fn number_fault(number: Number) -> Call
-    ensures { result ≡ with_number number (λ value end. Nothing) }
-{
-    match number {
-        Number::Fault(reason) => Call::Fault(reason),
-        Number::Is(_, _) => Call::Nothing,
+        Err(Reason::ExtraWord)
+    } else {
+        Ok(call)
     }
 }
 
-fn hex_fault(hex: Hex) -> Call
-    ensures { result ≡ with_hex hex (λ first last end. Nothing) }
+#[tactic(auto, unfolding(line::specs::Line::catalogue_from))]
+fn catalogue(line: &[u8], at: usize) -> Result<Call, Reason>
+    requires { at ≤ length line.now }
+    ensures { (result ≡ catalogue_from line.now at) × LineReady (length line.now) result }
 {
-    match hex {
-        Hex::Fault(reason) => Call::Fault(reason),
-        Hex::Is(_, _, _) => Call::Nothing,
-    }
+    let bytes = hex_word(line, at, CATALOGUE_MOST)?;
+    whole(line, bytes.last, Call::Catalogue(bytes))
 }
 
-fn catalogue(line: &[u8], at: usize) -> Call
+#[tactic(auto, unfolding(line::specs::Line::connect_from))]
+fn connect(line: &[u8], at: usize) -> Result<Call, Reason>
     requires { at ≤ length line.now }
-    ensures { (result ≡ catalogue_from line.now at) × CallReady (length line.now) result }
+    ensures { (result ≡ connect_from line.now at) × LineReady (length line.now) result }
 {
-    let hex = hex_word(line, at, CATALOGUE_MOST);
-    let Hex::Is(first, last, end) = hex else {
-        return hex_fault(hex);
-    };
-    whole(line, end, Call::Catalogue(first, last))
+    let (seat, at) = number_word(line, at)?;
+    let (version, at) = number_word(line, at)?;
+    whole(line, at, Call::Connect { seat, version })
 }
 
-fn connect(line: &[u8], at: usize) -> Call
+#[tactic(auto, unfolding(line::specs::Line::open_from))]
+fn open(line: &[u8], at: usize) -> Result<Call, Reason>
     requires { at ≤ length line.now }
-    ensures { (result ≡ connect_from line.now at) × CallReady (length line.now) result }
+    ensures { (result ≡ open_from line.now at) × LineReady (length line.now) result }
 {
-    let number = number_word(line, at);
-    let Number::Is(seat, next) = number else {
-        return number_fault(number);
-    };
-    let further = number_word(line, next);
-    let Number::Is(version, end) = further else {
-        return number_fault(further);
-    };
-    whole(line, end, Call::Connect(seat, version))
+    let (seat, at) = number_word(line, at)?;
+    let tree = hex_word(line, at, BYTES_MOST)?;
+    whole(line, tree.last, Call::Open { seat, tree })
 }
 
-fn open(line: &[u8], at: usize) -> Call
+#[tactic(auto, unfolding(line::specs::Line::message_from, line::specs::Line::room_from))]
+fn message(line: &[u8], at: usize) -> Result<Call, Reason>
     requires { at ≤ length line.now }
-    ensures { (result ≡ open_from line.now at) × CallReady (length line.now) result }
+    ensures { (result ≡ message_from line.now at) × LineReady (length line.now) result }
 {
-    let number = number_word(line, at);
-    let Number::Is(seat, next) = number else {
-        return number_fault(number);
-    };
-    let hex = hex_word(line, next, BYTES_MOST);
-    let Hex::Is(first, last, end) = hex else {
-        return hex_fault(hex);
-    };
-    whole(line, end, Call::Open(seat, first, last))
-}
-
-fn message(line: &[u8], at: usize) -> Call
-    requires { at ≤ length line.now }
-    ensures { (result ≡ message_from line.now at) × CallReady (length line.now) result }
-{
-    let number = number_word(line, at);
-    let Number::Is(seat, next) = number else {
-        return number_fault(number);
-    };
-    message_from(line, next, seat)
-}
-
-// The room and the bytes of a message.
-fn message_from(line: &[u8], at: usize, seat: u32) -> Call
-    requires { at ≤ length line.now }
-    ensures { (result ≡ room_from seat line.now at) × CallReady (length line.now) result }
-{
-    let number = number_word(line, at);
-    let Number::Is(room, next) = number else {
-        return number_fault(number);
-    };
+    let (seat, at) = number_word(line, at)?;
+    let (room, at) = number_word(line, at)?;
     if ROOM_MOST < room {
-        return Call::Fault(Reason::TooLong);
+        return Err(Reason::TooLong);
     }
-    let hex = hex_word(line, next, BYTES_MOST);
-    let Hex::Is(first, last, end) = hex else {
-        return hex_fault(hex);
-    };
-    whole(line, end, Call::Message(seat, room, first, last))
+    let bytes = hex_word(line, at, BYTES_MOST)?;
+    whole(line, bytes.last, Call::Message { seat, room, bytes })
 }
 
-fn word(line: &[u8], at: usize) -> Call
+#[tactic(auto, unfolding(line::specs::Line::word_from))]
+fn word(line: &[u8], at: usize) -> Result<Call, Reason>
     requires { at ≤ length line.now }
-    ensures { (result ≡ word_from line.now at) × CallReady (length line.now) result }
+    ensures { (result ≡ word_from line.now at) × LineReady (length line.now) result }
 {
-    let number = number_word(line, at);
-    let Number::Is(index, next) = number else {
-        return number_fault(number);
-    };
+    let (index, at) = number_word(line, at)?;
     if INDEX_MOST < index {
-        return Call::Fault(Reason::NoSuchWord);
+        return Err(Reason::NoSuchWord);
     }
-    let further = number_word(line, next);
-    let Number::Is(value, end) = further else {
-        return number_fault(further);
-    };
-    whole(line, end, Call::Word(index, value))
+    let (value, at) = number_word(line, at)?;
+    whole(line, at, Call::Word { index, value })
 }
 
-// The call that a line is, its comment cut off.
-pub fn read(line: &[u8]) -> Call
-    ensures { (result ≡ call_of line.now) × CallReady (length line.now) result }
+// The call of a name, whose words stand from a place on.
+#[tactic(auto, unfolding(line::specs::Line::named))]
+fn named(name: &[u8], line: &[u8], at: usize) -> Result<Call, Reason>
+    requires { at ≤ length line.now }
+    ensures { (result ≡ named name.now line.now at) × LineReady (length line.now) result }
+{
+    if line_word::same(name, b"catalogue") {
+        catalogue(line, at)
+    } else if line_word::same(name, b"connect") {
+        connect(line, at)
+    } else if line_word::same(name, b"open") {
+        open(line, at)
+    } else if line_word::same(name, b"message") {
+        message(line, at)
+    } else if line_word::same(name, b"word") {
+        word(line, at)
+    } else {
+        Err(Reason::UnknownCall)
+    }
+}
+
+// The call that a line is, its comment cut off, or why it is none.
+#[tactic(auto, unfolding(line::specs::Line::call_of, line::specs::Line::call_in))]
+pub fn read(line: &[u8]) -> Result<Call, Reason>
+    ensures { (result ≡ call_of line.now) × LineReady (length line.now) result }
 {
     let start = line_word::after_separators(line, 0);
     let end = line_word::after_word(line, start);
     if start == end {
-        return Call::Nothing;
+        return Ok(Call::Nothing);
     }
-    let name = &line[start..end];
-    if line_word::same(name, b"catalogue") {
-        return catalogue(line, end);
-    }
-    if line_word::same(name, b"connect") {
-        return connect(line, end);
-    }
-    if line_word::same(name, b"open") {
-        return open(line, end);
-    }
-    if line_word::same(name, b"message") {
-        return message(line, end);
-    }
-    if line_word::same(name, b"word") {
-        return word(line, end);
-    }
-    Call::Fault(Reason::UnknownCall)
+    named(&line[start..end], line, end)
 }

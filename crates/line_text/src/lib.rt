@@ -14,16 +14,6 @@ pub fn put(out: &mut [u8], at: usize, text: &[u8]) -> usize
     at + text.len()
 }
 
-// The first of the digits that were made.
-fn put_digits(out: &mut [u8], at: usize, text: &[u8; 20], count: usize) -> usize
-    requires { (at + 20 ≤ length out.old) × (count ≤ length text.now) }
-    ensures { (count ≤ 20) × Put (take count text.now) at result out.old out.new }
-{
-    let digits = &text[..];
-    wire_copy::lay_bytes(out, at, &digits[0..count]);
-    at + count
-}
-
 // A number in decimal digits.
 pub fn put_decimal(out: &mut [u8], at: usize, value: u64) -> usize
     requires { at + 20 ≤ length out.old }
@@ -31,7 +21,7 @@ pub fn put_decimal(out: &mut [u8], at: usize, value: u64) -> usize
 {
     let mut text = [0u8; 20];
     let count = io::decimal(value, &mut text);
-    put_digits(out, at, &text, count)
+    put(out, at, &text[..count])
 }
 
 // A hex digit, in upper case.
@@ -40,9 +30,10 @@ fn digit(value: u8) -> u8
     ensures { result ≡ glyph value }
 {
     if value < 10 {
-        return value + 48;
+        b'0' + value
+    } else {
+        b'A' + (value - 10)
     }
-    value + 55
 }
 
 // Two hex digits for each byte.
@@ -50,13 +41,10 @@ fn put_pairs(out: &mut [u8], at: usize, bytes: &[u8]) -> usize
     requires { at + 2 * length bytes.now ≤ length out.old }
     ensures { Put (hex_pairs bytes.now) at result out.old out.new }
 {
-    let mut i = 0;
-    while i < bytes.len() {
-        let b = bytes[i];
+    for (i, byte) in bytes.iter().enumerate() {
         let to = at + 2 * i;
-        out[to] = digit(b / 16);
-        out[to + 1] = digit(b % 16);
-        i += 1;
+        out[to] = digit(byte / 16);
+        out[to + 1] = digit(byte % 16);
     }
     at + 2 * bytes.len()
 }
@@ -66,10 +54,11 @@ pub fn put_hex(out: &mut [u8], at: usize, bytes: &[u8]) -> usize
     requires { at + 2 * length bytes.now + 1 ≤ length out.old }
     ensures { Put (hex_text bytes.now) at result out.old out.new }
 {
-    if bytes.len() == 0 {
-        return put(out, at, b"-");
+    if bytes.is_empty() {
+        put(out, at, b"-")
+    } else {
+        put_pairs(out, at, bytes)
     }
-    put_pairs(out, at, bytes)
 }
 
 const FILL: u8 = 0xAA;
@@ -78,25 +67,15 @@ const FILL: u8 = 0xAA;
 pub fn fill(reply: &mut [u8])
     ensures { reply.new ≡ replicate (length reply.old) fill_byte }
 {
-    let mut i = 0;
-    while i < reply.len() {
-        reply[i] = FILL;
-        i += 1;
-    }
+    reply.fill(FILL);
 }
 
-// A byte past a count is no longer what it was filled with. There is no early return, so that many bytes are looked at in one
-// step.
+// A byte past a count is no longer what it was filled with. All of them are looked at, many in one step: `any`, which stops
+// at the first, looks at one byte in a step.
 pub fn spilled(reply: &[u8], count: usize) -> bool
     ensures { result ≡ changed (drop count reply.now) }
 {
-    let mut found = false;
-    let mut i = count;
-    while i < reply.len() {
-        if reply[i] != FILL {
-            found = true;
-        }
-        i += 1;
-    }
-    found
+    let past = &reply[count.min(reply.len())..];
+    past.iter()
+        .fold(false, |found, &byte| found | (byte != FILL))
 }

@@ -5,3 +5,4 @@ pub mod Says
 pub mod Every
 pub mod Rising
 pub mod Parts
+pub mod Library

@@ -8,15 +8,12 @@ ghost use Rattle.lists.specs.Below.{both, within};
 pub fn both(a: bool, b: bool) -> bool
     ensures { result ≡ both a b }
 {
-    if a {
-        return b;
-    }
-    false
+    a && b
 }
 
 // Whether a number is one of those from low to high.
 pub fn within(low: u32, high: u32, number: u32) -> bool
     ensures { result ≡ within low high number }
 {
-    both(low <= number, number <= high)
+    (low..=high).contains(&number)
 }

@@ -2,7 +2,7 @@
 use mathlib.Core.Path.{◌≡◌, refl, sym, ap, ap₂, ◌∙◌}
 use mathlib.Core.Bool.{true, false}
 use mathlib.Core.List.{List, ◌++◌, append_assoc}
-use mathlib.Core.Option.{Option, none, some}
+use Rattle.std.specs.Prelude.{Option, None, Some, Ok}
 use Prim.Native.Nat.{ℕ, ◌+◌}
 use borrow.Author.Tests.{eq-eqb, ne_eqb}
 use lib.Dec.{eqb}
@@ -28,18 +28,18 @@ use Rattle.message.proofs.Answering.{lay_front, seat_is, seat_fits, body_done}
 
 -- a cursor put under a handle is that of the seat with the cursor
 pub put_handle : (s : Seat) (handle : ℕ) (o : Option Cursor) → CursorOk s.first → CursorOk s.second
-    → put (seat_words (some s)) (cursor_place handle) cursor_size (cursor_words o) ≡ seat_words (some (with_cursor s handle o))
+    → put (seat_words (Some s)) (cursor_place handle) cursor_size (cursor_words o) ≡ seat_words (Some (with_cursor s handle o))
 put_handle s handle o f g =
     by_test (eqb handle 1)
     (λ q. rw q (first_put s o (cursor_words_lem s.first f).size))
     (λ q. rw q (second_put s o (cursor_words_lem s.first f).size (cursor_words_lem s.second g).size))
 
-pub with_fits : (s : Seat) (handle : ℕ) (o : Option Cursor) → CursorOk s.first → CursorOk s.second → CursorOk o → SeatOk (some (with_cursor s handle o))
+pub with_fits : (s : Seat) (handle : ℕ) (o : Option Cursor) → CursorOk s.first → CursorOk s.second → CursorOk o → SeatOk (Some (with_cursor s handle o))
 with_fits s handle o f g h = by_test (eqb handle 1) (λ q. rw q (h, g)) (λ q. rw q (f, h))
 
 -- the seat that the words of a seat hold
-pub seat_read : (s : Seat) → SeatOk (some s) → seat_in (seat_words (some s)) ≡ s
-seat_read s f = some_is (seat_words_lem (some s) f).held
+pub seat_read : (s : Seat) → SeatOk (Some s) → seat_in (seat_words (Some s)) ≡ s
+seat_read s f = some_is (seat_words_lem (Some s) f).held
 
 -- bytes laid after the first sixteen
 lay_after : (t a b : List ℕ) → length a ≡ 16 → lay (lay t 0 a) 16 b ≡ (a ++ b) ++ drop (16 + length b) t
@@ -62,7 +62,7 @@ module _ (b m reply : List ℕ) (msg : ℕ) (a : AdmittedReady b m reply msg 0) 
   body_there e = rw (ne_eqb (length m) 16 e)
 
   pub disconnected : length m ≡ 16 → (words : List ℕ) → words ≡ zeros (length b)
-      → Answers (seat_message rows (seat_of b) m) (record { refusal = 0; count = 0 }) words reply reply
+      → Answers (seat_message rows (seat_of b) m) (Ok 0) words reply reply
   unfolding first_cause
   disconnected e words z =
       let o : seat_message rows (seat_of b) m ≡ done_on rows 0 (seat_in b) m = body_done b m reply msg 0 a rows (rw (eq-eqb (length m) 16 e)) in
@@ -78,22 +78,22 @@ module _ (b m reply : List ℕ) (msg : ℕ) (a : AdmittedReady b m reply msg 1) 
   unfolding first_cause
   not_open_lem e o = rw (eq-eqb (length m) 20 e, o)
 
-  pub freed_words : put b (cursor_place (handle_of m)) cursor_size (cursor_words none) ≡ seat_words (some (freed (seat_in b) m))
+  pub freed_words : put b (cursor_place (handle_of m)) cursor_size (cursor_words None) ≡ seat_words (Some (freed (seat_in b) m))
   freed_words =
-      ap (λ (x : List ℕ). put x (cursor_place (handle_of m)) cursor_size (cursor_words none)) (seat_is b m reply msg 1 a)
-      ∙ put_handle (seat_in b) (handle_of m) none (seat_fits b m reply msg 1 a).0 (seat_fits b m reply msg 1 a).1
+      ap (λ (x : List ℕ). put x (cursor_place (handle_of m)) cursor_size (cursor_words None)) (seat_is b m reply msg 1 a)
+      ∙ put_handle (seat_in b) (handle_of m) None (seat_fits b m reply msg 1 a).0 (seat_fits b m reply msg 1 a).1
 
   pub freed_answers : length m ≡ 20 → is_open (cursor_in (seat_in b) (handle_of m)) ≡ true → (words exit : List ℕ) (left : ℕ)
-      → words ≡ put b (cursor_place (handle_of m)) cursor_size (cursor_words none) → left ≡ still_open (seat_in words)
+      → words ≡ put b (cursor_place (handle_of m)) cursor_size (cursor_words None) → left ≡ still_open (seat_in words)
       → exit ≡ lay (lay reply 0 (four_words msg 0 0 0)) 16 (le 4 left)
-      → Answers (seat_message rows (seat_of b) m) (record { refusal = 0; count = 20 }) words reply exit
+      → Answers (seat_message rows (seat_of b) m) (Ok 20) words reply exit
   unfolding first_cause le
   freed_answers e o words exit left p l w =
       let d : seat_message rows (seat_of b) m ≡ done_on rows 1 (seat_in b) m = body_done b m reply msg 1 a rows (rw (eq-eqb (length m) 20 e, o)) in
-      let k : words ≡ seat_words (some (freed (seat_in b) m)) = p ∙ freed_words in
+      let k : words ≡ seat_words (Some (freed (seat_in b) m)) = p ∙ freed_words in
       let n : left ≡ still_open (freed (seat_in b) m)
       = l ∙ ap (λ (x : List ℕ). still_open (seat_in x)) k
-      ∙ ap still_open (seat_read (freed (seat_in b) m) (with_fits (seat_in b) (handle_of m) none (seat_fits b m reply msg 1 a).0 (seat_fits b m reply msg 1 a).1 tt)) in
+      ∙ ap still_open (seat_read (freed (seat_in b) m) (with_fits (seat_in b) (handle_of m) None (seat_fits b m reply msg 1 a).0 (seat_fits b m reply msg 1 a).1 tt)) in
       rw d
       record {
         refused = refl;

@@ -1,8 +1,12 @@
 -- The kind of a message, and refusals 6 to 8. Assumes nothing.
-use mathlib.Core.Path.{◌≡◌, sym, ◌∙◌}
+use mathlib.Core.Path.{◌≡◌, refl, sym, ap, ◌∙◌}
 use mathlib.Core.Bool.{Bool, true, false}
 use mathlib.Core.List.{List}
-use mathlib.Core.Option.{Option, none, some}
+use Rattle.std.specs.Prelude.{Option, None, Some, Ok, Err}
+use Rattle.refusal.specs.declared.Refusal.{Refusal}
+use Rattle.refusal.specs.declared.Refusal.TheVariants.{NotServed}
+use Rattle.refusal.specs.Numbers.{refusal_number, refusing, number_of}
+use Rattle.refusal.proofs.Numbers.{number_least, given_number, given_is, refused_number}
 use Prim.Native.Nat.{ℕ, suc, ◌+◌, ◌-◌, ◌*◌, ◌≤◌, ◌<◌}
 use native.Mathlib.Omega.{arith}
 use borrow.Author.Tests.{eq-eqb, ne_eqb, lt-ltb, le-ltb, ltb-true, ltb-false, le-leb, lt-leb}
@@ -14,7 +18,9 @@ use Rattle.wire.specs.Checksum.{checksum, checksum_told}
 use Rattle.lists.proofs.Below.{by_test}
 use Rattle.table.specs.Seat.{Seat, seat_of}
 use Rattle.refusal.specs.Refusal.{first_cause}
-use Rattle.message.specs.Message.{message_table, kinds, kind_from, kind_of, served, tested, msg_of, checksum_wrong, gate_causes}
+use Rattle.message.specs.declared.Kind.{Kind}
+use Rattle.message.specs.AnswerTold.{kind_at, gated}
+use Rattle.message.specs.Message.{kind_number, message_table, kinds, kind_from, kind_of, served, tested, msg_of, checksum_wrong, gate_causes}
 
 left_is : (k : ℕ) → k < kinds → kinds - k ≡ suc (kinds - (k + 1))
 left_is k h = omega arith
@@ -30,6 +36,19 @@ kind_more k msg h e = rw (left_is k h, ne_eqb (get_or message_table (2 * k) 0) m
 pub kind_none : (k msg : ℕ) → k ≡ kinds → kind_from (kinds - k) k msg ≡ k
 unfolding kind_from
 kind_none k msg e = rw e
+
+-- a kind by the number at which it stands
+pub kind_told : (n : ℕ) (kind : Kind) → kind_at n ≡ Some kind → n ≡ kind_number kind
+kind_told n kind e = grind arith
+
+pub kind_untold : (n : ℕ) → kind_at n ≡ None → kinds ≤ n
+kind_untold n e = grind arith
+
+pub kind_served : (n : ℕ) (kind : Kind) → kind_at n ≡ Some kind → n < kinds
+kind_served n kind e = grind arith
+
+pub kind_tested : (n : ℕ) (kind : Kind) → kind_at n ≡ Some kind → tested n ≡ tested (kind_number kind)
+kind_tested n kind e = ap tested (kind_told n kind e)
 
 -- the ways that refusals 6 to 8 can go
 module _ (b m : List ℕ) where
@@ -75,11 +94,32 @@ gate_connected b m e o = let z : ◌≡◌ {A = ℕ} 7 0 = sym (unconnected b m 
 
 pub gate_small : (held : Option Seat) (m : List ℕ) → first_cause (gate_causes held m) < 17
 unfolding first_cause
-gate_small none m = by_test (served (msg_of m)) (λ q. rw q (omega arith)) (λ q. rw q (omega arith))
-gate_small (some s) m =
+gate_small None m = by_test (served (msg_of m)) (λ q. rw q (omega arith)) (λ q. rw q (omega arith))
+gate_small (Some s) m =
     by_test (served (msg_of m))
     (λ q.
     by_test (checksum_wrong s.version (kind_of (msg_of m)) m)
     (λ w. rw (q, w) (omega arith))
     (λ w. rw (q, w) (omega arith)))
     (λ q. rw q (omega arith))
+
+-- an answer of the gate by its cases
+pub gate_admits : (b m : List ℕ) (kind : Kind) → Ok kind ≡ gated (kind_at (kind_of (msg_of m))) (first_cause (gate_causes (seat_of b) m))
+    → (first_cause (gate_causes (seat_of b) m) ≡ 0) × (kind_of (msg_of m) ≡ kind_number kind)
+gate_admits b m kind e = go (kind_at (kind_of (msg_of m))) refl e
+  where
+    go : (o : Option Kind) → kind_at (kind_of (msg_of m)) ≡ o → Ok kind ≡ gated o (first_cause (gate_causes (seat_of b) m))
+        → (first_cause (gate_causes (seat_of b) m) ≡ 0) × (kind_of (msg_of m) ≡ kind_number kind)
+    go None p f = absurd (number_least NotServed (sym (ap number_of f)))
+    go (Some k) p f =
+        let z = given_number (first_cause (gate_causes (seat_of b) m)) k kind (gate_small (seat_of b) m) f in
+        (z, kind_told (kind_of (msg_of m)) kind (p ∙ ap Some (sym (given_is kind k (f ∙ ap (λ (n : ℕ). refusing n k) z)))))
+
+pub gate_refuses : (b m : List ℕ) (r : Refusal) → Err r ≡ gated (kind_at (kind_of (msg_of m))) (first_cause (gate_causes (seat_of b) m))
+    → first_cause (gate_causes (seat_of b) m) ≡ refusal_number r
+gate_refuses b m r e = go (kind_at (kind_of (msg_of m))) refl e
+  where
+    go : (o : Option Kind) → kind_at (kind_of (msg_of m)) ≡ o → Err r ≡ gated o (first_cause (gate_causes (seat_of b) m))
+        → first_cause (gate_causes (seat_of b) m) ≡ refusal_number r
+    go None p f = not_served_lem b m (kind_untold (kind_of (msg_of m)) p) ∙ sym (ap number_of f)
+    go (Some k) p f = refused_number (first_cause (gate_causes (seat_of b) m)) k r (gate_small (seat_of b) m) f

@@ -3,7 +3,7 @@ use mathlib.Core.Path.{◌≡◌, refl}
 use mathlib.Core.Bool.{true, false, not}
 use mathlib.Core.List.{List, [], ◌∷◌}
 use mathlib.Core.Logic.{inr}
-use mathlib.Core.Option.{Option, none, some}
+use Rattle.std.specs.Prelude.{Option, None, Some}
 use Prim.Native.Nat.{ℕ, ◌+◌, ◌-◌, ◌≤◌}
 use native.Mathlib.Omega.{arith}
 use borrow.Author.Tests.{eqb-true}
@@ -31,53 +31,53 @@ use Rattle.message.proofs.Answering.{gate_numbered}
 use Rattle.message.proofs.Tidy.{bindings_tidy}
 
 -- what holds of each cursor of a seat
-module _ (P : Option Cursor → Type 0) (none_is : P none) where
+module _ (P : Option Cursor → Type 0) (none_is : P None) where
   abbrev Both : Option Seat → Type 0
-  Both none = Unit {0}
-  Both (some s) = P s.first × P s.second
+  Both None = Unit {0}
+  Both (Some s) = P s.first × P s.second
 
-  cursor_of_lem : (s : Seat) (handle : ℕ) → Both (some s) → P (cursor_in s handle)
+  cursor_of_lem : (s : Seat) (handle : ℕ) → Both (Some s) → P (cursor_in s handle)
   cursor_of_lem s handle w =
       by_test (eqb handle 1)
       (λ q. rw q w.0)
       (λ q. rw q (by_test (eqb handle 2) (λ k. rw k w.1) (λ k. rw k none_is)))
 
-  put_of : (s : Seat) (handle : ℕ) (o : Option Cursor) → Both (some s) → P o → Both (some (with_cursor s handle o))
+  put_of : (s : Seat) (handle : ℕ) (o : Option Cursor) → Both (Some s) → P o → Both (Some (with_cursor s handle o))
   put_of s handle o w h = by_test (eqb handle 1) (λ q. rw q (h, w.1)) (λ q. rw q (w.0, h))
 
   -- it holds of what a message leaves where it holds before, of a cursor with other bindings that fit, and of one that is moved
   -- within its selection
-  module _ (bound : (c : Cursor) (width : ℕ) (columns : List Column) → P (some c) → fit width columns ≡ true → every tidy columns ≡ true
-      → P (some (rebound c width columns)))
-      (moves : (c : Cursor) (k : ℕ) → P (some c) → k ≤ length c.selection - c.position → P (some (moved c (c.position + k))))
+  module _ (bound : (c : Cursor) (width : ℕ) (columns : List Column) → P (Some c) → fit width columns ≡ true → every tidy columns ≡ true
+      → P (Some (rebound c width columns)))
+      (moves : (c : Cursor) (k : ℕ) → P (Some c) → k ≤ length c.selection - c.position → P (Some (moved c (c.position + k))))
       (rows : List Row) where
-    bound_of : (s : Seat) (m : List ℕ) (o : Option Cursor) (x : Option Bindings) → bindings m ≡ x → unfit x ≡ false → Both (some s) → P o
-        → Both (some (bound_to s (handle_of m) o x))
-    bound_of s m none x e f w h = w
-    bound_of s m (some c) none e f w h = w
-    bound_of s m (some c) (some x) e f w h =
-        put_of s (handle_of m) (some (rebound c x.width x.columns)) w
+    bound_of : (s : Seat) (m : List ℕ) (o : Option Cursor) (x : Option Bindings) → bindings m ≡ x → unfit x ≡ false → Both (Some s) → P o
+        → Both (Some (bound_to s (handle_of m) o x))
+    bound_of s m None x e f w h = w
+    bound_of s m (Some c) None e f w h = w
+    bound_of s m (Some c) (Some x) e f w h =
+        put_of s (handle_of m) (Some (rebound c x.width x.columns)) w
         (bound c x.width x.columns h (fits f) (bindings_tidy m x e))
       where
         fits : not (fit x.width x.columns) ≡ false → fit x.width x.columns ≡ true
         fits q = by_test (fit x.width x.columns) (λ k. k) (λ k. absurd (true≢false (rw k at q)))
 
-    fetched_of : (s : Seat) (m : List ℕ) (o : Option Cursor) (x : Option Request) → request m ≡ x → Both (some s) → P o
+    fetched_of : (s : Seat) (m : List ℕ) (o : Option Cursor) (x : Option Request) → request m ≡ x → Both (Some s) → P o
         → Both (rows_done rows s (handle_of m) o x).after
-    fetched_of s m none x e w h = w
-    fetched_of s m (some c) none e w h = w
-    fetched_of s m (some c) (some q) e w h =
-        put_of s (handle_of m) (some (fetched rows c q)) w
+    fetched_of s m None x e w h = w
+    fetched_of s m (Some c) None e w h = w
+    fetched_of s m (Some c) (Some q) e w h =
+        put_of s (handle_of m) (Some (fetched rows c q)) w
         (moves c (sent rows c q) h (sent_left rows c q (sound_inside q (request_sound m q e))))
 
-    done_of : (kind : ℕ) (s : Seat) (m : List ℕ) → first_cause (body_causes rows kind s m) ≡ 0 → Both (some s) → Both (done_on rows kind s m).after
+    done_of : (kind : ℕ) (s : Seat) (m : List ℕ) → first_cause (body_causes rows kind s m) ≡ 0 → Both (Some s) → Both (done_on rows kind s m).after
     unfolding first_cause
     done_of kind s m e w =
         by_test (eqb kind 0)
         (λ q. rw q tt)
         (λ q.
         by_test (eqb kind 1)
-        (λ k. rw (q, k) (put_of s (handle_of m) none w none_is))
+        (λ k. rw (q, k) (put_of s (handle_of m) None w none_is))
         (λ k.
         by_test (eqb kind 2)
         (λ l. rw (q, k, l) (fetched_of s m (cursor_in s (handle_of m)) (request m) refl w (cursor_of_lem s (handle_of m) w)))
@@ -94,13 +94,13 @@ module _ (P : Option Cursor → Type 0) (none_is : P none) where
 
     pub message_keeps : (held : Option Seat) (m : List ℕ) → Both held → Both (seat_message rows held m).after
     unfolding seat_message
-    message_keeps none m w = by_test (eqb (first_cause (seat_causes rows none m)) 0) (λ q. rw q tt) (λ q. rw q tt)
-    message_keeps (some s) m w =
-        by_test (eqb (first_cause (seat_causes rows (some s) m)) 0)
+    message_keeps None m w = by_test (eqb (first_cause (seat_causes rows None m)) 0) (λ q. rw q tt) (λ q. rw q tt)
+    message_keeps (Some s) m w =
+        by_test (eqb (first_cause (seat_causes rows (Some s) m)) 0)
         (λ q.
         rw q
         (done_of (kind_of (msg_of m)) s m
-        (first_both (gate_causes (some s) m) (body_of rows (some s) m) (gate_numbered (some s) m) (eqb-true (first_cause (seat_causes rows (some s) m)) 0 q)).1
+        (first_both (gate_causes (Some s) m) (body_of rows (Some s) m) (gate_numbered (Some s) m) (eqb-true (first_cause (seat_causes rows (Some s) m)) 0 q)).1
         w))
         (λ q. rw q w)
 
@@ -118,12 +118,12 @@ message_fits rows held m f =
     out (seat_message rows held m).after (message_keeps CursorOk tt rebound_fits moved_fits rows held m (into held f))
   where
     into : (o : Option Seat) → SeatOk o → Both CursorOk tt o
-    into none w = tt
-    into (some s) w = w
+    into None w = tt
+    into (Some s) w = w
 
     out : (o : Option Seat) → Both CursorOk tt o → SeatOk o
-    out none w = tt
-    out (some s) w = w
+    out None w = tt
+    out (Some s) w = w
 
 -- and its row numbers below a bound
 pub message_below : (bound : ℕ) (rows : List Row) (held : Option Seat) (m : List ℕ) → seat_below bound held ≡ true
@@ -133,9 +133,9 @@ message_below bound rows held m f =
     (message_keeps (λ o. cursor_below bound o ≡ true) refl (λ c width columns h b t. h) (λ c k h l. h) rows held m (into held f))
   where
     into : (o : Option Seat) → seat_below bound o ≡ true → Both (λ o. cursor_below bound o ≡ true) refl o
-    into none w = tt
-    into (some s) w = (both_left _ (cursor_below bound s.second) w, both_right (cursor_below bound s.first) _ w)
+    into None w = tt
+    into (Some s) w = (both_left _ (cursor_below bound s.second) w, both_right (cursor_below bound s.first) _ w)
 
     out : (o : Option Seat) → Both (λ o. cursor_below bound o ≡ true) refl o → seat_below bound o ≡ true
-    out none w = refl
-    out (some s) w = both_true (cursor_below bound s.first) (cursor_below bound s.second) w.0 w.1
+    out None w = refl
+    out (Some s) w = both_true (cursor_below bound s.first) (cursor_below bound s.second) w.0 w.1

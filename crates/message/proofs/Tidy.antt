@@ -2,7 +2,7 @@
 use mathlib.Core.Path.{◌≡◌, refl, subst}
 use mathlib.Core.Bool.{Bool, true, false}
 use mathlib.Core.List.{List, [], ◌∷◌}
-use mathlib.Core.Option.{Option, none, some}
+use Rattle.std.specs.Prelude.{Option, None, Some}
 use Prim.Native.Nat.{ℕ, zero, suc, ◌+◌, ◌≤◌}
 use native.Mathlib.Omega.{arith}
 use borrow.Author.Tests.{eq-eqb, eqb-false, leb-true}
@@ -21,7 +21,7 @@ use Rattle.lists.specs.Options.{and_then}
 use Rattle.table.specs.Well.{flagged, tidy}
 
 -- a flag that was read is 0 or 1
-flag_small : (at : ℕ) (s : List ℕ) (r : ℕ × ℕ × List ℕ) → flag at s ≡ some r → r.0 ≤ 1
+flag_small : (at : ℕ) (s : List ℕ) (r : ℕ × ℕ × List ℕ) → flag at s ≡ Some r → r.0 ≤ 1
 unfolding flag
 flag_small at [] r e = absurd (none≢some e)
 flag_small at (b ∷ s) r e =
@@ -39,16 +39,16 @@ used_one used rest h q = rw (q, one)
 abbrev SpotTidy : Spot → Type 0
 SpotTidy p = (flagged p.used p.offset ≡ true) × (p.used ≤ 1)
 
-spot_tidy : (at : ℕ) (s : List ℕ) (r : Spot × ℕ × List ℕ) → spot at s ≡ some r → SpotTidy r.0
+spot_tidy : (at : ℕ) (s : List ℕ) (r : Spot × ℕ × List ℕ) → spot at s ≡ Some r → SpotTidy r.0
 unfolding spot
 spot_tidy at s r e =
     let f = then_inv (flag at s) _ r e in
     go f.0.0 f.0.1 f.0.2 (flag_small at s f.0 f.1) f.2
   where
     go : (used at : ℕ) (s : List ℕ) → used ≤ 1
-        → pick (eqb used 0) (some (record { used = 0; offset = 0 }, at, s))
-        (and_then (padded 2 at s) (λ (_, at, s). and_then (numeral 2 at s) (λ (offset, at, s). some (record { used = used; offset = offset }, at, s))))
-        ≡ some r
+        → pick (eqb used 0) (Some (record { used = 0; offset = 0 }, at, s))
+        (and_then (padded 2 at s) (λ (_, at, s). and_then (numeral 2 at s) (λ (offset, at, s). Some (record { used = used; offset = offset }, at, s))))
+        ≡ Some r
         → SpotTidy r.0
     go used at s h w =
         by_test (eqb used 0)
@@ -58,16 +58,16 @@ spot_tidy at s r e =
         let n = then_inv (numeral 2 p.0.1 p.0.2) _ r p.2 in
         subst (λ (x : Spot × ℕ × List ℕ). SpotTidy x.0) (some_is n.2) (used_one used n.0.0 h q, h))
 
-value_tidy : (at : ℕ) (s : List ℕ) (r : Value × ℕ × List ℕ) → value at s ≡ some r → flagged r.0.used (r.0.offset + r.0.size) ≡ true
+value_tidy : (at : ℕ) (s : List ℕ) (r : Value × ℕ × List ℕ) → value at s ≡ Some r → flagged r.0.used (r.0.offset + r.0.size) ≡ true
 unfolding value
 value_tidy at s r e =
     let f = then_inv (spot at s) _ r e in
     go f.0.0 f.0.1 f.0.2 (spot_tidy at s f.0 f.1).1 f.2
   where
     go : (p : Spot) (at : ℕ) (s : List ℕ) → p.used ≤ 1
-        → pick (eqb p.used 0) (some (record { used = 0; offset = 0; size = 0 }, at, s))
-        (and_then (numeral 2 at s) (λ (size, at, s). some (record { used = p.used; offset = p.offset; size = size }, at, s)))
-        ≡ some r
+        → pick (eqb p.used 0) (Some (record { used = 0; offset = 0; size = 0 }, at, s))
+        (and_then (numeral 2 at s) (λ (size, at, s). Some (record { used = p.used; offset = p.offset; size = size }, at, s)))
+        ≡ Some r
         → flagged r.0.used (r.0.offset + r.0.size) ≡ true
     go p at s h w =
         by_test (eqb p.used 0)
@@ -77,7 +77,7 @@ value_tidy at s r e =
         subst (λ (x : Value × ℕ × List ℕ). flagged x.0.used (x.0.offset + x.0.size) ≡ true) (some_is n.2)
         (used_one p.used (p.offset + n.0.0) h q))
 
-column_tidy : (at : ℕ) (s : List ℕ) (r : Column × ℕ × List ℕ) → column at s ≡ some r → tidy r.0 ≡ true
+column_tidy : (at : ℕ) (s : List ℕ) (r : Column × ℕ × List ℕ) → column at s ≡ Some r → tidy r.0 ≡ true
 unfolding column
 column_tidy at s r e =
     let p = then_inv (property at s) _ r e in
@@ -89,7 +89,7 @@ column_tidy at s r e =
     (both_true _ _ (value_tidy t.0.1 t.0.2 v.0 v.1)
     (both_true _ _ (spot_tidy v.0.1 v.0.2 a.0 a.1).0 (spot_tidy a.0.1 a.0.2 l.0 l.1).0))
 
-columns_tidy : (n at : ℕ) (s : List ℕ) (found : List Column) → columns n at s ≡ some found → every tidy found ≡ true
+columns_tidy : (n at : ℕ) (s : List ℕ) (found : List Column) → columns n at s ≡ Some found → every tidy found ≡ true
 unfolding columns every
 columns_tidy zero at [] found e = subst (λ (x : List Column). every tidy x ≡ true) (some_is e) refl
 columns_tidy zero at (b ∷ s) found e = absurd (none≢some e)
@@ -98,12 +98,12 @@ columns_tidy (suc n) at s found e =
     let c = then_inv (column p.0.1 p.0.2) _ found p.2 in
     go c.0.0 (columns n c.0.1 c.0.2) (column_tidy p.0.1 p.0.2 c.0 c.1) (columns_tidy n c.0.1 c.0.2) c.2
   where
-    go : (c : Column) (o : Option (List Column)) → tidy c ≡ true → ((x : List Column) → o ≡ some x → every tidy x ≡ true) → before c o ≡ some found
+    go : (c : Column) (o : Option (List Column)) → tidy c ≡ true → ((x : List Column) → o ≡ Some x → every tidy x ≡ true) → before c o ≡ Some found
         → every tidy found ≡ true
-    go c none t h w = absurd (none≢some w)
-    go c (some x) t h w = subst (λ (y : List Column). every tidy y ≡ true) (some_is w) (both_true (tidy c) (every tidy x) t (h x refl))
+    go c None t h w = absurd (none≢some w)
+    go c (Some x) t h w = subst (λ (y : List Column). every tidy y ≡ true) (some_is w) (both_true (tidy c) (every tidy x) t (h x refl))
 
-pub bindings_tidy : (m : List ℕ) (x : Bindings) → bindings m ≡ some x → every tidy x.columns ≡ true
+pub bindings_tidy : (m : List ℕ) (x : Bindings) → bindings m ≡ Some x → every tidy x.columns ≡ true
 unfolding bindings
 bindings_tidy m x e =
     let h = then_inv (bytes header_size 0 m) _ x e in
@@ -114,14 +114,14 @@ bindings_tidy m x e =
     described c.0.0 w.0.0 (eqb d.0.0 (length u.0.2)) u.0.1 u.0.2 u.2
   where
     listed : (handle width : ℕ) (count at : ℕ) (s : List ℕ) (o : Option (List Column)) → columns count at s ≡ o
-        → and_then o (λ c. some (record { handle = handle; width = width; columns = c })) ≡ some x → every tidy x.columns ≡ true
-    listed handle width count at s none p w = absurd (none≢some w)
-    listed handle width count at s (some found) p w =
+        → and_then o (λ c. Some (record { handle = handle; width = width; columns = c })) ≡ Some x → every tidy x.columns ≡ true
+    listed handle width count at s None p w = absurd (none≢some w)
+    listed handle width count at s (Some found) p w =
         subst (λ (y : Bindings). every tidy y.columns ≡ true) (some_is w) (columns_tidy count at s found p)
 
     described : (handle width : ℕ) (right : Bool) (at : ℕ) (s : List ℕ)
-        → pick right (and_then (numeral 4 at s) (λ (count, at, s). and_then (columns count at s) (λ c. some (record { handle = handle; width = width; columns = c })))) none
-        ≡ some x
+        → pick right (and_then (numeral 4 at s) (λ (count, at, s). and_then (columns count at s) (λ c. Some (record { handle = handle; width = width; columns = c })))) None
+        ≡ Some x
         → every tidy x.columns ≡ true
     described handle width true at s w =
         let n = then_inv (numeral 4 at s) _ x w in

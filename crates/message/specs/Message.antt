@@ -1,7 +1,7 @@
 -- What a message does to its seat (01, "Header and checksum", the refusal table, "Bindings", "Rows" and the paragraph on
 -- disconnect and free cursor).
 use Rattle.std.specs.Prelude.{Bool, true, false, not, List, [], ◌∷◌, ◌++◌, ℕ, zero, suc, ◌+◌, ◌*◌, leb, ltb, eqb, length, get_or}
-use Rattle.std.proofs.Math.Option.{Option, none, some}
+use Rattle.std.specs.Prelude.{Option, None, Some, Result, Ok, Err}
 use Rattle.lists.specs.Below.{pick, both}
 use Rattle.wire.specs.Word.{number_at, le}
 use Rattle.wire.specs.Checksum.{checksum}
@@ -10,7 +10,11 @@ use Rattle.bindings.specs.Fit.{fit}
 use Rattle.bindings.specs.Plain.{Bindings, bindings}
 use Rattle.wire.specs.Laid.{four_words}
 use Rattle.table.specs.Seat.{Cursor, Seat, cursor_in, with_cursor, rebound}
+use Rattle.refusal.specs.declared.Refusal.{Refusal}
 use Rattle.refusal.specs.Refusal.{first_cause, status_of}
+use Rattle.refusal.specs.Numbers.{refusal_number}
+use Rattle.message.specs.declared.Kind.{Kind}
+use Rattle.message.specs.declared.Kind.TheVariants.{Disconnect, FreeCursor, GetRows, SetBindings}
 use Rattle.fetch.specs.Request.{request}
 use Rattle.fetch.specs.Asking.{asking, asking_numbered}
 use Rattle.fetch.specs.declared.Request.{Request}
@@ -38,6 +42,13 @@ fetches = 2
 
 abbrev pub binds : ℕ
 binds = 3
+
+-- a kind's number
+abbrev pub kind_number : Kind → ℕ
+kind_number Disconnect = disconnects
+kind_number FreeCursor = frees
+kind_number GetRows = fetches
+kind_number SetBindings = binds
 
 -- the kind of a message is its place among those; one that is not served has the count of kinds
 unfoldable pub kind_from : ℕ → ℕ → ℕ → ℕ
@@ -70,13 +81,13 @@ not_open s m = (10, not (is_open (cursor_in s (handle_of m))))
 
 -- 9 "body malformed", for set bindings
 abbrev pub no_bindings : Option Bindings → Bool
-no_bindings none = true
-no_bindings (some b) = false
+no_bindings None = true
+no_bindings (Some b) = false
 
 -- 12 "bindings unfit", of a body that reads
 abbrev pub unfit : Option Bindings → Bool
-unfit none = false
-unfit (some b) = not (fit b.width b.columns)
+unfit None = false
+unfit (Some b) = not (fit b.width b.columns)
 
 -- 9 "body malformed", for get rows: the number that the reader's answer has
 abbrev pub unasked : Option Request → Bool
@@ -84,9 +95,9 @@ unasked q = eqb (asking_numbered (asking q)).number 9
 
 -- 11, 12, 13 and 15, of a body that reads and an open cursor
 abbrev pub rows_causes : List Row → Option Cursor → Option Request → List (ℕ × Bool)
-rows_causes rows none q = []
-rows_causes rows (some c) none = []
-rows_causes rows (some c) (some q) = fetch_causes rows c q
+rows_causes rows None q = []
+rows_causes rows (Some c) None = []
+rows_causes rows (Some c) (Some q) = fetch_causes rows c q
 
 -- 9 and after it, by kind: "Disconnect (empty body)", "Free cursor has a body of exactly 4 bytes", get rows, set bindings
 abbrev pub body_causes : List Row → ℕ → Seat → List ℕ → List (ℕ × Bool)
@@ -98,13 +109,13 @@ body_causes rows kind s m =
 
 -- 6 "message number not served", 7 "anything else on an unconnected one", 8 "checksum tested and wrong"
 abbrev pub gate_causes : Option Seat → List ℕ → List (ℕ × Bool)
-gate_causes none m = (6, not (served (msg_of m))) ∷ (7, true) ∷ []
-gate_causes (some s) m = (6, not (served (msg_of m))) ∷ (7, false) ∷ (8, checksum_wrong s.version (kind_of (msg_of m)) m) ∷ []
+gate_causes None m = (6, not (served (msg_of m))) ∷ (7, true) ∷ []
+gate_causes (Some s) m = (6, not (served (msg_of m))) ∷ (7, false) ∷ (8, checksum_wrong s.version (kind_of (msg_of m)) m) ∷ []
 
 -- an unconnected seat is refused before
 abbrev pub body_of : List Row → Option Seat → List ℕ → List (ℕ × Bool)
-body_of rows none m = []
-body_of rows (some s) m = body_causes rows (kind_of (msg_of m)) s m
+body_of rows None m = []
+body_of rows (Some s) m = body_causes rows (kind_of (msg_of m)) s m
 
 -- all causes from 6 on, in order
 abbrev pub seat_causes : List Row → Option Seat → List ℕ → List (ℕ × Bool)
@@ -120,43 +131,48 @@ pub record SeatOutcome : Type 0 where
 abbrev pub refused_on : ℕ → Option Seat → List ℕ → SeatOutcome
 refused_on n held m = record { refusal = n; reply = four_words (msg_of m) (status_of n) 0 0; after = held }
 
+-- the count of reply bytes of an answer: "Numbers 1 to 5 write nothing", from 6 on a refusal writes the header
+abbrev pub count_of : Result ℕ Refusal → ℕ
+count_of (Ok count) = count
+count_of (Err r) = pick (leb 6 (refusal_number r)) header_size 0
+
 -- a seat without the cursor that the message names
 abbrev pub freed : Seat → List ℕ → Seat
-freed s m = with_cursor s (handle_of m) none
+freed s m = with_cursor s (handle_of m) None
 
 -- a seat whose cursor under a handle has the bindings that were read
 abbrev pub bound_to : Seat → ℕ → Option Cursor → Option Bindings → Seat
-bound_to s handle none b = s
-bound_to s handle (some c) none = s
-bound_to s handle (some c) (some b) = with_cursor s handle (some (rebound c b.width b.columns))
+bound_to s handle None b = s
+bound_to s handle (Some c) None = s
+bound_to s handle (Some c) (Some b) = with_cursor s handle (Some (rebound c b.width b.columns))
 
 -- a seat that rows were sent to: the reply, and the cursor moved (without a request or a cursor it is refused before)
 abbrev pub rows_done : List Row → Seat → ℕ → Option Cursor → Option Request → SeatOutcome
-rows_done rows s handle (some c) (some q) =
-    record { refusal = 0; reply = fetch_reply rows c q; after = some (with_cursor s handle (some (fetched rows c q))) }
-rows_done rows s handle none q = record { refusal = 0; reply = []; after = some s }
-rows_done rows s handle (some c) none = record { refusal = 0; reply = []; after = some s }
+rows_done rows s handle (Some c) (Some q) =
+    record { refusal = 0; reply = fetch_reply rows c q; after = Some (with_cursor s handle (Some (fetched rows c q))) }
+rows_done rows s handle None q = record { refusal = 0; reply = []; after = Some s }
+rows_done rows s handle (Some c) None = record { refusal = 0; reply = []; after = Some s }
 
 -- disconnect "closes both cursors, leaves the seat unconnected and writes nothing"; free cursor's "reply is _msg, three zero
 -- words and the seat's count of cursors still open, 20 bytes"; get rows; "Accepted bindings replace the old; .. the reply is 16
 -- bytes: _msg, zero, zero, zero"
 abbrev pub done_on : List Row → ℕ → Seat → List ℕ → SeatOutcome
 done_on rows kind s m =
-    pick (eqb kind disconnects) (record { refusal = 0; reply = []; after = none })
+    pick (eqb kind disconnects) (record { refusal = 0; reply = []; after = None })
     (pick (eqb kind frees)
-    (record { refusal = 0; reply = four_words (msg_of m) 0 0 0 ++ le 4 (still_open (freed s m)); after = some (freed s m) })
+    (record { refusal = 0; reply = four_words (msg_of m) 0 0 0 ++ le 4 (still_open (freed s m)); after = Some (freed s m) })
     (pick (eqb kind fetches)
     (rows_done rows s (handle_of m) (cursor_in s (handle_of m)) (request m))
     (record {
       refusal = 0;
       reply = four_words (msg_of m) 0 0 0;
-      after = some (bound_to s (handle_of m) (cursor_in s (handle_of m)) (bindings m));
+      after = Some (bound_to s (handle_of m) (cursor_in s (handle_of m)) (bindings m));
     })))
 
 -- a message that is not refused is one of a connected seat: the first case never comes up
 abbrev pub done_by : List Row → Option Seat → List ℕ → SeatOutcome
-done_by rows none m = refused_on 7 none m
-done_by rows (some s) m = done_on rows (kind_of (msg_of m)) s m
+done_by rows None m = refused_on 7 None m
+done_by rows (Some s) m = done_on rows (kind_of (msg_of m)) s m
 
 -- a message on its seat, with the catalogue's rows: the first cause that applies is its refusal; where none does, what its kind
 -- does

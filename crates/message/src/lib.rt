@@ -3,20 +3,13 @@
 #![tactic(auto)]
 
 // The kinds of message served.
-pub const KINDS: usize = 4;
-
-pub const DISCONNECTS: usize = 0;
-
-pub const FREES: usize = 1;
-
-pub const FETCHES: usize = 2;
+#[derive(Clone, Copy, PartialEq, Eq)]
+pub enum Kind {
+    Disconnect,
+    FreeCursor,
+    GetRows,
+    SetBindings,
+}
 
 // The client version from which on a checksum is tested.
 pub const CHECKED_FROM: u32 = 8;
-
-// The answer to a message: the refusal number, else 0, and the count of reply bytes.
-#[derive(Clone, Copy)]
-pub struct Answered {
-    pub refusal: u32,
-    pub count: u32,
-}

@@ -1,17 +1,16 @@
 // What every message is judged by: its kind, refusals 6 to 8, and the reply of a refusal with its status.
 #![tactic(auto)]
 
-ghost use Rattle.std.specs.Prelude.{◌≡◌, ◌≤◌, ◌<◌, length};
+ghost use Rattle.std.specs.Prelude.{◌≡◌, ◌≤◌, length};
 ghost use Rattle.refusal.specs.Refusal.{status_of, first_cause};
+ghost use Rattle.refusal.specs.Numbers.{refusal_number};
 ghost use Rattle.wire.specs.Header.{header_size, message_most};
-ghost use Rattle.table.specs.Layout.{seat_size};
 ghost use Rattle.table.specs.Seat.{seat_of};
-ghost use Rattle.message.specs.Message.{kinds, kind_of, tested, msg_of, gate_causes};
-ghost use Rattle.message.specs.AnswerTold.{Refuses};
+ghost use Rattle.message.specs.Message.{kind_number, kind_of, tested, msg_of, gate_causes, count_of};
+ghost use Rattle.message.specs.AnswerTold.{kind_at, gated, Refuses};
 
-use message::Answered;
-
-const REFUSALS: u32 = 17;
+use message::Kind;
+use refusal::Refusal;
 
 // The statuses of the refusals, by number; those of 0 to 5 are never sent.
 const STATUSES: [u32; 17] = [
@@ -19,80 +18,113 @@ const STATUSES: [u32; 17] = [
     0x80040E08, 0xC00000BB, 0xC000009A, 0xC0000023, 0xC000000D,
 ];
 
-// The status of a refusal, 0 of a number that is none.
-fn status(refusal: u32) -> u32
-    ensures { result ≡ status_of refusal }
+fn number(refusal: Refusal) -> usize
+    ensures { result ≡ refusal_number refusal }
 {
-    if refusal < REFUSALS {
-        return STATUSES[refusal as usize];
-    }
-    0
+    refusal as usize
 }
 
-// The messages served: each its number, and 1 where its checksum is tested.
-const MESSAGES: [u32; 8] = [
-    wire::DISCONNECT,
-    0,
-    wire::FREE_CURSOR,
-    0,
-    wire::GET_ROWS,
-    1,
-    wire::SET_BINDINGS,
-    1,
+// The status of a refusal.
+fn status(refusal: Refusal) -> u32
+    ensures { result ≡ status_of (refusal_number refusal) }
+{
+    let at = number(refusal);
+    STATUSES[at]
+}
+
+// A message that is served: its number, its kind, and whether its checksum is tested.
+#[derive(Clone, Copy)]
+struct Served {
+    msg: u32,
+    kind: Kind,
+    tested: bool,
+}
+
+const MESSAGES: [Served; 4] = [
+    Served {
+        msg: wire::DISCONNECT,
+        kind: Kind::Disconnect,
+        tested: false,
+    },
+    Served {
+        msg: wire::FREE_CURSOR,
+        kind: Kind::FreeCursor,
+        tested: false,
+    },
+    Served {
+        msg: wire::GET_ROWS,
+        kind: Kind::GetRows,
+        tested: true,
+    },
+    Served {
+        msg: wire::SET_BINDINGS,
+        kind: Kind::SetBindings,
+        tested: true,
+    },
 ];
 
-// The kind of a message: its place among those served, else their count.
-pub fn kind(msg: u32) -> usize
-    ensures { result ≡ kind_of msg }
+// The kind of a message that is served.
+pub fn kind(msg: u32) -> Option<Kind>
+    ensures { result ≡ kind_at (kind_of msg) }
 {
-    let mut k = 0;
-    while k < message::KINDS {
-        if MESSAGES[2 * k] == msg {
-            return k;
+    for served in &MESSAGES {
+        if served.msg == msg {
+            return Some(served.kind);
         }
-        k += 1;
     }
-    k
+    None
 }
 
-fn tested(kind: usize) -> bool
-    requires { kind < kinds }
-    ensures { result ≡ tested kind }
+fn tested(kind: Kind) -> bool
+    ensures { result ≡ tested (kind_number kind) }
 {
-    MESSAGES[2 * kind + 1] == 1
+    MESSAGES[kind as usize].tested
 }
 
 // Refusals 6 to 8.
-pub fn gate(seat: &[u32], message: &[u8], kind: usize) -> u32
-    requires { (length seat.now ≡ seat_size) × (header_size ≤ length message.now)
-        × (length message.now ≤ message_most) × (kind ≡ kind_of (msg_of message.now)) }
-    ensures { result ≡ first_cause (gate_causes (seat_of seat.now) message.now) }
+pub fn gate(
+    seat: &[u32; table::SEAT_SIZE],
+    message: &[u8],
+    kind: Option<Kind>,
+) -> Result<Kind, Refusal>
+    requires { (header_size ≤ length message.now) × (length message.now ≤ message_most)
+        × (kind ≡ kind_at (kind_of (msg_of message.now))) }
+    ensures { result ≡ gated kind (first_cause (gate_causes (seat_of seat.now) message.now)) }
 {
-    if message::KINDS <= kind {
-        return 6;
-    }
+    let Some(kind) = kind else {
+        return Err(Refusal::NotServed);
+    };
     if seat[table::CONNECTED] == 0 {
-        return 7;
+        return Err(Refusal::Connection);
     }
-    if seat[table::VERSION] < message::CHECKED_FROM {
-        return 0;
-    }
-    if !tested(kind) {
-        return 0;
+    if seat[table::VERSION] < message::CHECKED_FROM || !tested(kind) {
+        return Ok(kind);
     }
     let told = wire_word::word(message, wire::CHECKSUM_AT) as u64;
     if told == wire_checksum::checksum(message) {
-        return 0;
+        Ok(kind)
+    } else {
+        Err(Refusal::ChecksumWrong)
     }
-    8
 }
 
 // A refusal from 6 on: the header with its status.
-pub fn refuse(reply: &mut [u8], msg: u32, refusal: u32) -> Answered
-    requires { (header_size ≤ length reply.old) × (refusal < 17) }
+pub fn refuse(reply: &mut [u8], msg: u32, refusal: Refusal) -> Result<u32, Refusal>
+    requires { header_size ≤ length reply.old }
     ensures { Refuses msg refusal result reply.old reply.new }
 {
     let sent = status(refusal);
     wire_lay_word::lay_header(reply, msg, sent);
-    Answered { refusal, count: 16 }
+    Err(refusal)
+}
+
+// The count of reply bytes of an answer.
+pub fn count(answered: Result<u32, Refusal>) -> u32
+    ensures { result ≡ count_of answered }
+{
+    match answered {
+        Ok(count) => count,
+        Err(refusal) if number(refusal) < 6 => 0,
+        Err(_) => 16,
+    }
 }

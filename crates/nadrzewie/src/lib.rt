@@ -63,7 +63,10 @@ pub extern "C" fn nadrzewie_connect(
         (connect_step (sources_of catalogue.now) table.old seat.number version)
         result 0 0 table.new [] [] }
 {
-    call_connect::connect(table, catalogue, table::Seat(seat.number), version)
+    match call_connect::connect(table, catalogue, table::Seat(seat.number), version) {
+        Ok(()) => 0,
+        Err(refusal) => refusal as u32,
+    }
 }
 
 // Opens a query on a seat: the rows that the tree selects.
@@ -78,12 +81,15 @@ pub extern "C" fn nadrzewie_open(
         (open_step (sources_of catalogue.now) table.old seat.number tree.now)
         result.refusal result.handle.number 0 table.new [] [] }
 {
-    let opened: query::Opened = call_open::open(table, catalogue, table::Seat(seat.number), tree);
-    let refusal = opened.refusal;
-    let number = opened.handle.0;
-    Opened {
-        refusal,
-        handle: Handle { number },
+    match call_open::open(table, catalogue, table::Seat(seat.number), tree) {
+        Ok(table::Handle(number)) => Opened {
+            refusal: 0,
+            handle: Handle { number },
+        },
+        Err(refusal) => Opened {
+            refusal: refusal as u32,
+            handle: Handle { number: 0 },
+        },
     }
 }
 
@@ -101,14 +107,19 @@ pub extern "C" fn nadrzewie_message(
         message.now (length reply.old))
         result.refusal 0 result.count table.new reply.old reply.new }
 {
-    let answered: message::Answered = call_message::message(
+    let answered = call_message::message(
         table,
         catalogue,
         table::Seat(seat.number),
         message,
         reply,
     );
-    let refusal = answered.refusal;
-    let count = answered.count;
-    Answered { refusal, count }
+    let count = message_gate::count(answered);
+    match answered {
+        Ok(_) => Answered { refusal: 0, count },
+        Err(refusal) => Answered {
+            refusal: refusal as u32,
+            count,
+        },
+    }
 }

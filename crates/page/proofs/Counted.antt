@@ -19,7 +19,7 @@ use Rattle.bindings.proofs.Columns.{from_length, from_more, from_none}
 use Rattle.page.specs.Cell.{block_room}
 use Rattle.page.specs.CellPlaces.{label_sent, note_sent, texts_sent, blocks_by}
 use Rattle.page.specs.FieldReady.{SizesReady}
-use Rattle.page.specs.RowReady.{RecordsReady, blocks_most}
+use Rattle.page.specs.RowReady.{blocks_most}
 use Rattle.page.specs.Rows.{blocks}
 use Rattle.page.specs.declared.Texts.{Texts}
 use Rattle.page.proofs.Fields.{field_number, field_text, text_size_lem}
@@ -77,9 +77,9 @@ texts_few [] = omega arith
 texts_few (c ∷ columns) = omega (arith, one_sent c, texts_few columns)
 
 -- of at most five columns
-pub sent_few : (bound : ℕ) (words : List ℕ) (t : Texts) → RecordsReady words bound → t ≡ texts_sent (columns_of bound words)
+pub sent_few : (bound : ℕ) (words : List ℕ) (t : Texts) → bound ≤ columns_most → t ≡ texts_sent (columns_of bound words)
     → t.labels + t.notes ≤ columns_most
-sent_few bound words t given e = rw e (omega (arith, texts_few (columns_of bound words), from_length bound 0 words, given.few))
+sent_few bound words t few e = rw e (omega (arith, few, texts_few (columns_of bound words), from_length bound 0 words))
 
 pub blocks_few : (t : Texts) (f : Fields) → t.labels + t.notes ≤ columns_most → SizesReady f → blocks_by t f ≤ blocks_most
 blocks_few t f few small =

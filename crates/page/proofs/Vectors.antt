@@ -1,7 +1,7 @@
 -- 01's numbers about rows: M11, M12, and the reply of the whole case.
 use mathlib.Core.Path.{◌≡◌, refl}
 use mathlib.Core.List.{[], ◌∷◌}
-use mathlib.Core.Option.{none, some}
+use Rattle.std.specs.Prelude.{None, Some}
 use native.Mathlib.Omega.{arith}
 use lib.ListN.{replicate}
 use Rattle.wire.specs.Word.{le}
@@ -15,17 +15,17 @@ use Rattle.bindings.specs.Examples.{case_columns}
 use Rattle.page.specs.Examples.{labelled, case_reply}
 
 -- M11: "B 512, R 32, W 24, no texts: 20 rows fit, 21 don't"
-pub m11 : Fits 512 32 24 case_columns (replicate 30 (labelled none)) 20
-    × (Fits 512 32 24 case_columns (replicate 30 (labelled none)) 21 → ⊥)
-    × (returned 24 case_columns 30 480 (replicate 30 (labelled none)) ≡ 20)
+pub m11 : Fits 512 32 24 case_columns (replicate 30 (labelled None)) 20
+    × (Fits 512 32 24 case_columns (replicate 30 (labelled None)) 21 → ⊥)
+    × (returned 24 case_columns 30 480 (replicate 30 (labelled None)) ≡ 20)
 unfolding all_blocks blocks returned
 m11 = (omega arith, (λ h. omega arith), refl)
 
 -- M12: "one label of 227 units fits; 228 gives 15"
-pub m12 : Fits 512 32 24 case_columns (labelled (some (replicate 227 0x41)) ∷ []) 1
-    × (Fits 512 32 24 case_columns (labelled (some (replicate 228 0x41)) ∷ []) 1 → ⊥)
-    × (returned 24 case_columns 1 480 (labelled (some (replicate 227 0x41)) ∷ []) ≡ 1)
-    × (returned 24 case_columns 1 480 (labelled (some (replicate 228 0x41)) ∷ []) ≡ 0)
+pub m12 : Fits 512 32 24 case_columns (labelled (Some (replicate 227 0x41)) ∷ []) 1
+    × (Fits 512 32 24 case_columns (labelled (Some (replicate 228 0x41)) ∷ []) 1 → ⊥)
+    × (returned 24 case_columns 1 480 (labelled (Some (replicate 227 0x41)) ∷ []) ≡ 1)
+    × (returned 24 case_columns 1 480 (labelled (Some (replicate 228 0x41)) ∷ []) ≡ 0)
 unfolding all_blocks blocks returned
 m12 = (omega arith, (λ h. omega arith), refl, refl)
 

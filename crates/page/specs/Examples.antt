@@ -1,10 +1,10 @@
 -- A row with a label or without, and the 512 bytes of the reply of 01's whole case.
 use Rattle.std.specs.Prelude.{List, [], ◌∷◌, ◌++◌, ℕ, replicate}
-use Rattle.std.proofs.Math.Option.{Option, none}
+use Rattle.std.specs.Prelude.{Option, None}
 use Rattle.catalogue.specs.Plain.{Row}
 
 abbrev pub labelled : Option (List ℕ) → Row
-labelled label = record { key = 1; language = 0; default = 0; label = label; note = none }
+labelled label = record { key = 1; language = 0; default = 0; label = label; note = None }
 
 -- the whole case: both rows in 512 bytes, whatever they held before
 abbrev pub case_reply : List ℕ

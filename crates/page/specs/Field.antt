@@ -1,6 +1,6 @@
 -- What a row has for a property (01, "The option catalogue": "property numbers 2 key, 3 language, 4 default, 5 label, 6 note").
 use Rattle.std.specs.Prelude.{List, ℕ, eqb}
-use Rattle.std.proofs.Math.Option.{Option, none, some}
+use Rattle.std.specs.Prelude.{Option, None, Some}
 use Rattle.lists.specs.Below.{pick}
 use Rattle.catalogue.specs.Plain.{Row}
 use Rattle.wire.specs.Property.{key_property, language_property, default_property, label_property}
@@ -13,8 +13,8 @@ pub data Field : Type 0 where
 
 -- a text that may be absent
 abbrev pub text_field : Option (List ℕ) → Field
-text_field none = absent
-text_field (some units) = text units
+text_field None = absent
+text_field (Some units) = text units
 
 -- one of five, by a property number
 abbrev pub by_property : {A : Type 0} → ℕ → A → A → A → A → A → A

@@ -1,5 +1,5 @@
 -- What the code relies on: texts that lie in the catalogue's bytes, and spans that lie in the reply.
-use Rattle.std.specs.Prelude.{◌≡◌, List, ℕ, ◌+◌, ◌^◌, ◌≤◌, ◌<◌, length}
+use Rattle.std.specs.Prelude.{◌≡◌, List, ℕ, ◌+◌, ◌^◌, ◌≤◌, ◌<◌}
 use Rattle.catalogue.specs.Limits.{size_most}
 use Rattle.catalogue.specs.CataloguePlaces.{row_of}
 use Rattle.catalogue.specs.declared.Fields.{Fields}

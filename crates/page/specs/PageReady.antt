@@ -1,7 +1,7 @@
 -- What the writer of a whole reply relies on.
-use Rattle.std.specs.Prelude.{◌≡◌, true, List, ℕ, ◌+◌, ◌^◌, ◌≤◌, ◌<◌, length}
+use Rattle.std.specs.Prelude.{◌≡◌, true, List, ℕ, ◌+◌, ◌^◌, ◌≤◌, ◌<◌}
 use Rattle.catalogue.specs.Limits.{rows_most}
-use Rattle.bindings.specs.Column.{room_words, columns_of}
+use Rattle.bindings.specs.Column.{columns_of}
 use Rattle.bindings.specs.Fit.{fit}
 use Rattle.page.specs.Cell.{offset_width}
 use Rattle.page.specs.declared.Sheet.{Sheet}
@@ -9,7 +9,6 @@ use Rattle.page.specs.declared.Sheet.{Sheet}
 -- a whole reply in a buffer of n bytes: fit bindings, no more numbers than a catalogue has rows, and "_ulClientBase + B" not
 -- "above 4,294,967,295"
 pub record PageReady (n : ℕ) (records : List ℕ) (sheet : Sheet) (count : ℕ) : Type 0 where
-  pub long : length records ≡ room_words
   pub fits : fit sheet.width (columns_of sheet.bound records) ≡ true
   pub head : 32 ≤ sheet.from
   pub few : count ≤ rows_most

@@ -4,18 +4,13 @@ use Rattle.catalogue.specs.Plain.{Row}
 use Rattle.catalogue.specs.CataloguePlaces.{row_seen, fields_seen}
 use Rattle.catalogue.specs.CatalogueReady.{RowAtReady}
 use Rattle.catalogue.specs.declared.Fields.{Fields}
-use Rattle.bindings.specs.Column.{room_words, columns_most, column_at, columns_of}
+use Rattle.bindings.specs.Column.{columns_most, column_at, columns_of}
 use Rattle.bindings.specs.Fit.{row_most}
 use Rattle.bindings.specs.declared.Column.{Column}
 use Rattle.page.specs.Cell.{offset_width}
 use Rattle.page.specs.FieldReady.{SpansReady}
 use Rattle.page.specs.Rows.{blocks}
 use Rattle.page.specs.declared.Sheet.{Sheet}
-
--- the words of at most five columns
-pub record RecordsReady (words : List ℕ) (bound : ℕ) : Type 0 where
-  pub long : length words ≡ room_words
-  pub few : bound ≤ columns_most
 
 -- each row that has one of these numbers stands at its place
 abbrev pub NumbersReady : List ℕ → List ℕ → List ℕ → Type 0
@@ -37,7 +32,7 @@ needed width columns (r ∷ rows) = width + blocks columns r + needed width colu
 -- a row in a reply of n bytes, its fields as they stand at a place
 pub record RowReady (n : ℕ) (s : List ℕ) (at : ℕ) (fields : Fields) (words : List ℕ) (bound base row top : ℕ) : Type 0 where
   pub read : fields ≡ fields_seen s at
-  pub given : RecordsReady words bound
+  pub few : bound ≤ columns_most
   pub columns : AllSpansReady n row words bound
   pub room : blocks (columns_of bound words) (row_seen s at) ≤ top
   pub ends : top ≤ n
@@ -45,7 +40,7 @@ pub record RowReady (n : ℕ) (s : List ℕ) (at : ℕ) (fields : Fields) (words
 
 -- rows in a reply of n bytes, laid by a sheet
 pub record RowsReady (n : ℕ) (records : List ℕ) (sheet : Sheet) : Type 0 where
-  pub given : RecordsReady records sheet.bound
+  pub few : sheet.bound ≤ columns_most
   pub narrow : sheet.width ≤ row_most
   pub columns : AllSpansReady sheet.width 0 records sheet.bound
   pub inside : sheet.from ≤ sheet.size

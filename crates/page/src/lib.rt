@@ -21,6 +21,15 @@ pub struct Texts {
     pub notes: usize,
 }
 
+// What is laid of a field in a row: the type and the number of its cell, its status byte, and its length.
+#[derive(Clone, Copy)]
+pub struct Shown {
+    pub kind: u64,
+    pub number: u64,
+    pub status: u8,
+    pub size: u64,
+}
+
 // The type that a cell says of a text.
 pub const TEXT_TYPE: u64 = 0x001F;
 

@@ -17,7 +17,7 @@ fn lay_rows(
     catalogue: &[u8],
     places: &[u32],
     numbers: &[u32],
-    records: &[u32],
+    records: &[u32; bindings::ROOM_WORDS],
     sheet: Sheet,
 ) -> usize
     requires { RowsReady (length reply.old) records.now sheet × NumbersReady catalogue.now places.now numbers.now }
@@ -27,11 +27,8 @@ fn lay_rows(
     let texts = page_row::texts_sent(records, sheet.bound);
     let mut row = sheet.from;
     let mut top = sheet.size;
-    let mut sent = 0;
-    while sent < sheet.asked {
-        if numbers.len() <= sent {
-            return sent;
-        }
+    let most = sheet.asked.min(numbers.len());
+    for sent in 0..most {
         let number = numbers[sent];
         let at = page_row::place_of(places, Row(number));
         let fields = catalogue_row::fields_at(catalogue, at);
@@ -41,19 +38,15 @@ fn lay_rows(
         }
         top = page_row::lay_row(reply, catalogue, at, &fields, records, sheet, row, top);
         row += sheet.width;
-        sent += 1;
     }
-    sent
+    most
 }
 
 // The status of a reply after which so many rows remain.
 fn status_for(remaining: usize) -> u32
     ensures { result ≡ status_for remaining }
 {
-    if remaining == 0 {
-        return page::END_OF_ROWS;
-    }
-    0
+    if remaining == 0 { page::END_OF_ROWS } else { 0 }
 }
 
 // The whole reply with the first of the rows that have these numbers: as many as are asked for, remain and fit. Their
@@ -63,7 +56,7 @@ pub fn page(
     catalogue: &[u8],
     places: &[u32],
     numbers: &[u32],
-    records: &[u32],
+    records: &[u32; bindings::ROOM_WORDS],
     sheet: Sheet,
 ) -> usize
     requires { PageReady (length reply.old) records.now sheet (length numbers.now)

@@ -2,7 +2,7 @@
 use mathlib.Core.Path.{◌≡◌, refl, ap, subst, ◌∙◌}
 use mathlib.Core.Bool.{Bool, true}
 use mathlib.Core.List.{List, [], ◌∷◌, ◌++◌}
-use mathlib.Core.Option.{Option, none, some}
+use Rattle.std.specs.Prelude.{Option, None, Some}
 use Prim.Native.Nat.{ℕ, ◌<◌}
 use native.Mathlib.Omega.{arith}
 use borrow.Author.Tests.{le-ltb}
@@ -40,9 +40,9 @@ abbrev pub quietly : ℕ → Option Seat → Own
 quietly n held = record { answer = record { refusal = n; handle = 0; reply = [] }; after = held }
 
 abbrev pub own_open : Sources → Option Seat → List ℕ → Own
-own_open src none tree = quietly 7 none
-own_open src (some s) tree =
-    record { answer = record { refusal = 0; handle = free_handle s; reply = [] }; after = some (opened_on s tree src.rows) }
+own_open src None tree = quietly 7 None
+own_open src (Some s) tree =
+    record { answer = record { refusal = 0; handle = free_handle s; reply = [] }; after = Some (opened_on s tree src.rows) }
 
 abbrev pub own_message : Sources → Option Seat → List ℕ → Own
 own_message src held m =
@@ -55,7 +55,7 @@ taken held = (7, is_connected held) ∷ []
 -- a call by its seat alone, where 1 to 3 do not apply
 abbrev pub own_step : Sources → Option Seat → Call → Own
 own_step src held (connecting k version) =
-    pick (eqb (first_cause (taken held)) 0) (quietly 0 (some (fresh version))) (quietly (first_cause (taken held)) held)
+    pick (eqb (first_cause (taken held)) 0) (quietly 0 (Some (fresh version))) (quietly (first_cause (taken held)) held)
 own_step src held (opening k tree) =
     pick (eqb (first_cause (open_causes held tree)) 0) (own_open src held tree) (quietly (first_cause (open_causes held tree)) held)
 own_step src held (messaging k m room) =
@@ -97,8 +97,8 @@ module _ (s t : List ℕ) (p : Passing (sources_of s) t) where
       rw q
       record {
         answer = refl;
-        held = held_same t p.well seat h (some (fresh version)) (tt, tt);
-        others = held_other t p.well seat h (some (fresh version)) (tt, tt);
+        held = held_same t p.well seat h (Some (fresh version)) (tt, tt);
+        others = held_other t p.well seat h (Some (fresh version)) (tt, tt);
       })
       (λ q. rw q record { answer = refl; held = refl; others = λ k l d. refl }))
 
@@ -117,21 +117,21 @@ module _ (s t : List ℕ) (p : Passing (sources_of s) t) where
       })
       (λ q. rw q record { answer = refl; held = refl; others = λ k l d. refl }))
 
-  pub opened_fits : (seat : ℕ) (k : Seat) (tree : List ℕ) → seat < seats → seat_held t seat ≡ some k → SeatOk (some (opened_on k tree (catalogue s)))
+  pub opened_fits : (seat : ℕ) (k : Seat) (tree : List ℕ) → seat < seats → seat_held t seat ≡ Some k → SeatOk (Some (opened_on k tree (catalogue s)))
   opened_fits seat k tree h e =
       let f = subst SeatOk e (seat_ok t p.well seat h) in
-      with_fits k (free_handle k) (some (opened (selected_by (restriction tree) (catalogue s)))) f.0 f.1
+      with_fits k (free_handle k) (Some (opened (selected_by (restriction tree) (catalogue s)))) f.0 f.1
       (selected_fits s (restriction tree) (catalogue s) refl)
 
   open_done_lem : (seat : ℕ) (tree : List ℕ) → seat < seats → (held : Option Seat) → seat_held t seat ≡ held
       → Agrees t seat (open_done (sources_of s) t seat tree held) (own_open (sources_of s) held tree)
-  open_done_lem seat tree h none e = record { answer = refl; held = e; others = λ k l d. refl }
-  open_done_lem seat tree h (some k) e =
+  open_done_lem seat tree h None e = record { answer = refl; held = e; others = λ k l d. refl }
+  open_done_lem seat tree h (Some k) e =
       let f = opened_fits seat k tree h e in
       record {
         answer = refl;
-        held = held_same t p.well seat h (some (opened_on k tree (catalogue s))) f;
-        others = held_other t p.well seat h (some (opened_on k tree (catalogue s))) f;
+        held = held_same t p.well seat h (Some (opened_on k tree (catalogue s))) f;
+        others = held_other t p.well seat h (Some (opened_on k tree (catalogue s))) f;
       }
 
   open_alone : (seat : ℕ) (tree : List ℕ) → seat < seats → Alone (sources_of s) t (opening seat tree)

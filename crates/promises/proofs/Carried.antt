@@ -4,7 +4,7 @@ use mathlib.Core.Path.{◌≡◌, refl, sym, ap, ◌∙◌}
 use mathlib.Core.Bool.{true, false, not}
 use mathlib.Core.List.{List, [], ◌∷◌}
 use mathlib.Core.Logic.{inl, inr, ⊎_elim}
-use mathlib.Core.Option.{Option, none, some}
+use Rattle.std.specs.Prelude.{Option, None, Some}
 use Prim.Native.Nat.{ℕ, ◌+◌, ◌<◌}
 use native.Mathlib.Omega.{arith}
 use borrow.Author.Tests.{eq-eqb, ne_eqb, eqb-true, eqb-false}
@@ -108,8 +108,8 @@ module _ (rows : List Row) (s : Seat) (m : List ℕ) where
   pub record Binding : Type 0 where
     pub cursor : Cursor
     pub body : Bindings
-    pub held : cursor_in s (handle_of m) ≡ some cursor
-    pub reads : bindings m ≡ some body
+    pub held : cursor_in s (handle_of m) ≡ Some cursor
+    pub reads : bindings m ≡ Some body
 
   binding : first_cause (body_causes rows 3 s m) ≡ 0 → Binding
   unfolding first_cause
@@ -117,10 +117,10 @@ module _ (rows : List Row) (s : Seat) (m : List ℕ) where
     where
       go : (o : Option Cursor) → cursor_in s (handle_of m) ≡ o → (x : Option Bindings) → bindings m ≡ x
           → first_cause ((9, no_bindings x) ∷ (10, not (is_open o)) ∷ (12, unfit x) ∷ []) ≡ 0 → Binding
-      go none h none b w = absurd (let z : ◌≡◌ {A = ℕ} 9 0 = w in omega arith)
-      go none h (some x) b w = absurd (let z : ◌≡◌ {A = ℕ} 10 0 = w in omega arith)
-      go (some c) h none b w = absurd (let z : ◌≡◌ {A = ℕ} 9 0 = w in omega arith)
-      go (some c) h (some x) b w = record { cursor = c; body = x; held = h; reads = b }
+      go None h None b w = absurd (let z : ◌≡◌ {A = ℕ} 9 0 = w in omega arith)
+      go None h (Some x) b w = absurd (let z : ◌≡◌ {A = ℕ} 10 0 = w in omega arith)
+      go (Some c) h None b w = absurd (let z : ◌≡◌ {A = ℕ} 9 0 = w in omega arith)
+      go (Some c) h (Some x) b w = record { cursor = c; body = x; held = h; reads = b }
 
   -- the cursor under a handle, where the message names one that is open, by what is put in its place
   named : (handle : ℕ) (o x : Option Cursor) → Handle (handle_of m) → Handle handle → (handle_of m ≡ handle → o ≡ x)
@@ -130,7 +130,7 @@ module _ (rows : List Row) (s : Seat) (m : List ℕ) where
       ∙ by_test (eqb (handle_of m) handle) (λ q. rw q (f (eqb-true (handle_of m) handle q))) (λ q. rw q)
 
   -- get rows, and set bindings
-  fetch_told : (handle : ℕ) → Handle handle → (c : Cursor) (q : Request) → cursor_in s (handle_of m) ≡ some c → request m ≡ some q
+  fetch_told : (handle : ℕ) → Handle handle → (c : Cursor) (q : Request) → cursor_in s (handle_of m) ≡ Some c → request m ≡ Some q
       → number_at 4 (fetch_reply rows c q) 16 ≡ sent rows c q
       → cursor_by (rows_done rows s (handle_of m) (cursor_in s (handle_of m)) (request m)).after handle
       ≡ pick (eqb (handle_of m) handle)
@@ -138,28 +138,28 @@ module _ (rows : List Row) (s : Seat) (m : List ℕ) where
       (cursor_in s handle)
   fetch_told handle n c q h b r =
       rw (h, b)
-      (named handle (some (fetched rows c q)) (changed (carried_on (fetch_reply rows c q)) (cursor_in s handle)) (open_handle s (handle_of m) (ap is_open h)) n
+      (named handle (Some (fetched rows c q)) (changed (carried_on (fetch_reply rows c q)) (cursor_in s handle)) (open_handle s (handle_of m) (ap is_open h)) n
       (λ w.
-      ap (λ (i : ℕ). some (moved c (c.position + i))) (sym r)
+      ap (λ (i : ℕ). Some (moved c (c.position + i))) (sym r)
       ∙ ap (changed (carried_on (fetch_reply rows c q))) (sym (ap (cursor_in s) (sym w) ∙ h))))
 
-  bind_told : (handle : ℕ) → Handle handle → (c : Cursor) (x : Bindings) → cursor_in s (handle_of m) ≡ some c → bindings m ≡ some x
-      → cursor_by (some (bound_to s (handle_of m) (cursor_in s (handle_of m)) (bindings m))) handle
+  bind_told : (handle : ℕ) → Handle handle → (c : Cursor) (x : Bindings) → cursor_in s (handle_of m) ≡ Some c → bindings m ≡ Some x
+      → cursor_by (Some (bound_to s (handle_of m) (cursor_in s (handle_of m)) (bindings m))) handle
       ≡ pick (eqb (handle_of m) handle) (changed (bound bound_by (bindings m)) (cursor_in s handle)) (cursor_in s handle)
   bind_told handle n c x h b =
       rw (h, b)
-      (named handle (some (rebound c x.width x.columns)) (changed (bound_by x) (cursor_in s handle)) (open_handle s (handle_of m) (ap is_open h)) n
+      (named handle (Some (rebound c x.width x.columns)) (changed (bound_by x) (cursor_in s handle)) (open_handle s (handle_of m) (ap is_open h)) n
       (λ w. ap (changed (bound_by x)) (sym (ap (cursor_in s) (sym w) ∙ h))))
 
   -- what each kind of message makes of it
-  done_told : (src : Sources) → SeatOk (some s) → (handle : ℕ) → Handle handle → Kind (msg_of m)
+  done_told : (src : Sources) → SeatOk (Some s) → (handle : ℕ) → Handle handle → Kind (msg_of m)
       → first_cause (body_causes rows (kind_of (msg_of m)) s m) ≡ 0
       → cursor_by (done_on rows (kind_of (msg_of m)) s m).after handle
       ≡ after_message (cursor_account src) handle m (done_on rows (kind_of (msg_of m)) s m).reply (cursor_in s handle)
   done_told src f handle n (leaves a k) e = rw (k, a)
   done_told src f handle n (frees a b k) e =
       rw (k, a, b)
-      (named handle none none (open_handle s (handle_of m) (freed_open (rw k at e))) n (λ w. refl))
+      (named handle None None (open_handle s (handle_of m) (freed_open (rw k at e))) n (λ w. refl))
   done_told src f handle n (fetches a b d k) e =
       let r = fetching rows s m f (rw k at e) in
       rw (k, a, b, d)
@@ -169,13 +169,13 @@ module _ (rows : List Row) (s : Seat) (m : List ℕ) where
       rw (k, a, b, d) (bind_told handle n r.cursor r.body r.held r.reads)
 
   -- a message that its seat accepts is done by its kind, which is one of the four
-  pub accepted_kind : first_cause (seat_causes rows (some s) m) ≡ 0 → Kind (msg_of m) × (first_cause (body_causes rows (kind_of (msg_of m)) s m) ≡ 0)
+  pub accepted_kind : first_cause (seat_causes rows (Some s) m) ≡ 0 → Kind (msg_of m) × (first_cause (body_causes rows (kind_of (msg_of m)) s m) ≡ 0)
   unfolding first_cause
   accepted_kind e =
-      let b = first_both (gate_causes (some s) m) (body_of rows (some s) m) (gate_numbered (some s) m) e in
+      let b = first_both (gate_causes (Some s) m) (body_of rows (Some s) m) (gate_numbered (Some s) m) e in
       (kind_of_lem (msg_of m) (serves b.0), b.1)
     where
-      serves : first_cause (gate_causes (some s) m) ≡ 0 → served (msg_of m) ≡ true
+      serves : first_cause (gate_causes (Some s) m) ≡ 0 → served (msg_of m) ≡ true
       serves w = by_test (served (msg_of m)) (λ q. q) (λ q. absurd (let z : ◌≡◌ {A = ℕ} 6 0 = rw q at w in omega arith))
 
 -- a message on its seat
@@ -184,13 +184,13 @@ module _ (src : Sources) where
       → cursor_by (seat_message rows held m).after handle
       ≡ after_message (cursor_account src) handle m (seat_message rows held m).reply (cursor_by held handle)
   unfolding seat_message first_cause
-  message_told rows none m f handle n e =
+  message_told rows None m f handle n e =
       by_test (served (msg_of m))
       (λ q. absurd (let z : ◌≡◌ {A = ℕ} 7 0 = rw q at e in omega arith))
       (λ q. absurd (let z : ◌≡◌ {A = ℕ} 6 0 = rw q at e in omega arith))
-  message_told rows (some s) m f handle n e =
+  message_told rows (Some s) m f handle n e =
       let k = accepted_kind rows s m e in
-      rw (eq-eqb (first_cause (seat_causes rows (some s) m)) 0 e) (done_told rows s m src f handle n k.0 k.1)
+      rw (eq-eqb (first_cause (seat_causes rows (Some s) m)) 0 e) (done_told rows s m src f handle n k.0 k.1)
 
   -- a call by its seat alone
   module _ (seat handle : ℕ) (n : Handle handle) where
@@ -209,18 +209,18 @@ module _ (src : Sources) where
     own_told : (held : Option Seat) (c : Call) → SeatOk held → eqb (seat_of_call c) seat ≡ true → (own_step src held c).answer.refusal ≡ 0
         → cursor_by (own_step src held c).after handle ≡ after_call (cursor_account src) seat handle (cursor_by held handle) c (own_step src held c).answer
     unfolding first_cause
-    own_told none (connecting k version) f same e =
+    own_told None (connecting k version) f same e =
         by_test (eqb handle 1) (λ q. rw q) (λ q. by_test (eqb handle 2) (λ l. rw (q, l)) (λ l. rw (q, l)))
-    own_told (some s) (connecting k version) f same e = refl
-    own_told none (opening k tree) f same e = absurd (let z : ◌≡◌ {A = ℕ} 7 0 = e in omega arith)
-    own_told (some s) (opening k tree) f same e =
+    own_told (Some s) (connecting k version) f same e = refl
+    own_told None (opening k tree) f same e = absurd (let z : ◌≡◌ {A = ℕ} 7 0 = e in omega arith)
+    own_told (Some s) (opening k tree) f same e =
         by_test (eqb (free_handle s) 0)
         (λ q. absurd (let z : ◌≡◌ {A = ℕ} 14 0 = rw q at e in omega arith))
         (λ q.
         by_test (is_tree (restriction tree))
         (λ t.
         rw (q, t, same)
-        (with_in s (free_handle s) handle (some (opened (selected_by (restriction tree) src.rows))) (free_handle_lem s q) n))
+        (with_in s (free_handle s) handle (Some (opened (selected_by (restriction tree) src.rows))) (free_handle_lem s q) n))
         (λ t. absurd (let z : ◌≡◌ {A = ℕ} 16 0 = rw (q, t) at e in omega arith)))
     own_told held (messaging k m room) f same e = own_message_lem held k m room f same e
 

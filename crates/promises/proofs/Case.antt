@@ -1,7 +1,7 @@
 -- The whole case: four calls from the fresh table to the 512 bytes, by computation over the calls' own seat. Assumes nothing.
 use mathlib.Core.Path.{◌≡◌, refl, sym, ap, ap₂, ◌∙◌}
 use mathlib.Core.List.{List, [], ◌∷◌}
-use mathlib.Core.Option.{Option, none, some}
+use Rattle.std.specs.Prelude.{Option, None, Some}
 use Prim.Native.Nat.{ℕ, ◌<◌}
 use native.Mathlib.Omega.{arith}
 use Rattle.lists.specs.Below.{every_below}
@@ -55,7 +55,7 @@ by_own s t seat h (c ∷ calls) w p =
     ∙ ap (λ (o : Option Seat). own_history (sources_of s) o calls)
     (ap (seat_held (step (sources_of s) t c).words) (sym w.0) ∙ l.held ∙ ap (λ (o : Option Seat). (own_step (sources_of s) o c).after) held))
 
-computed : own_history (record { rows = some case_rows }) none case_calls ≡ case_events
+computed : own_history (record { rows = Some case_rows }) None case_calls ≡ case_events
 unfolding own_history first_cause seat_message kind_from number_at number le restriction read_tree relation_at property_at set_ours zero_at every_below says numbers_from bindings columns column property value spot flag zero_bytes fit columns_fit every pairwise spans_of request blocks returned page_bytes lays lay rows_spans row_spans column_spans unit_bytes
 computed = refl
 
@@ -64,13 +64,13 @@ unfolding Each
 whole_case =
     by_own case_bytes fresh_table 0 (omega arith) case_calls (refl, (refl, (refl, (refl, tt)))) (fresh_passes case_bytes case_rows case_parses)
     ∙ ap (λ (o : Option Seat). own_history (sources_of case_bytes) o case_calls) (fresh_seat 0 (omega arith))
-    ∙ ap (λ (src : Sources). own_history src none case_calls) (ap (λ o. record { rows = o }) case_parses)
+    ∙ ap (λ (src : Sources). own_history src None case_calls) (ap (λ o. record { rows = o }) case_parses)
     ∙ computed
 
 -- so a client notes one page, whose reply is the 512 bytes
-pub case_noted : notes_told 0 1 (history (sources_of case_bytes) fresh_table case_calls) ≡ some case_notes
+pub case_noted : notes_told 0 1 (history (sources_of case_bytes) fresh_table case_calls) ≡ Some case_notes
 unfolding told number_at number le set_ours every_below bindings columns column property value spot flag zero_bytes
 case_noted = ap (notes_told 0 1) whole_case ∙ noted
   where
-    noted : notes_told 0 1 case_events ≡ some case_notes
+    noted : notes_told 0 1 case_events ≡ Some case_notes
     noted = refl

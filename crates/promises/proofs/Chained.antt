@@ -1,7 +1,7 @@
 -- A chain of calls that were made is a history, and a history of calls after calls is two. Assumes nothing.
 use mathlib.Core.Path.{◌≡◌, refl, sym, ap, ap₂, ◌∙◌}
 use mathlib.Core.List.{List, [], ◌∷◌, ◌++◌, map}
-use mathlib.Core.Option.{some}
+use Rattle.std.specs.Prelude.{Some}
 use Prim.Native.Nat.{ℕ}
 use lib.ListN.{length, drop}
 use lib.Seq.{take_at}
@@ -33,8 +33,8 @@ chained src t (m ∷ made) c =
     )
 
 -- so what a client notes of calls that were made from the fresh table is a walk
-pub made_walks : (s : List ℕ) (rows : List Row) → catalogue s ≡ some rows → (made : List Made) → Chain (sources_of s) fresh_table made
-    → (seat handle : ℕ) (noted : Notes) → notes_told seat handle (map event_made made) ≡ some noted → Walk rows noted
+pub made_walks : (s : List ℕ) (rows : List Row) → catalogue s ≡ Some rows → (made : List Made) → Chain (sources_of s) fresh_table made
+    → (seat handle : ℕ) (noted : Notes) → notes_told seat handle (map event_made made) ≡ Some noted → Walk rows noted
 made_walks s rows e made c seat handle noted w =
     walks s rows e (calls_made made) seat handle noted (sym (ap (notes_told seat handle) (chained (sources_of s) fresh_table made c).0) ∙ w)
 

@@ -3,7 +3,7 @@ use mathlib.Core.Path.{◌≡◌, refl, sym, ap, ◌∙◌}
 use mathlib.Core.Bool.{true, false}
 use mathlib.Core.List.{List}
 use mathlib.Core.Logic.{◌↔◌, inl, inr}
-use mathlib.Core.Option.{Option, none, some}
+use Rattle.std.specs.Prelude.{Option, None, Some}
 use Prim.Native.Nat.{ℕ, ◌<◌}
 use native.Mathlib.Omega.{arith}
 use borrow.Author.Tests.{eq-eqb, eqb-false}
@@ -39,37 +39,37 @@ use Rattle.promises.proofs.Carried.{Kind, leaves, frees, fetches, binds, accepte
 use Rattle.promises.proofs.Fetched.{cursor_told_lem}
 
 -- another cursor under a handle leaves the version
-with_version : (s : Seat) (handle : ℕ) (c : Option Cursor) → version_of (some (with_cursor s handle c)) ≡ some s.version
+with_version : (s : Seat) (handle : ℕ) (c : Option Cursor) → version_of (Some (with_cursor s handle c)) ≡ Some s.version
 with_version s handle c = by_test (eqb handle 1) (λ q. rw q) (λ q. rw q)
 
 -- and so does what each kind of message does, but a disconnect
 module _ (rows : List Row) (s : Seat) (m : List ℕ) where
-  rows_version : (handle : ℕ) (c : Option Cursor) (q : Option Request) → version_of (rows_done rows s handle c q).after ≡ some s.version
-  rows_version handle none q = refl
-  rows_version handle (some c) none = refl
-  rows_version handle (some c) (some q) = with_version s handle (some (fetched rows c q))
+  rows_version : (handle : ℕ) (c : Option Cursor) (q : Option Request) → version_of (rows_done rows s handle c q).after ≡ Some s.version
+  rows_version handle None q = refl
+  rows_version handle (Some c) None = refl
+  rows_version handle (Some c) (Some q) = with_version s handle (Some (fetched rows c q))
 
-  bound_version : (handle : ℕ) (c : Option Cursor) (b : Option Bindings) → version_of (some (bound_to s handle c b)) ≡ some s.version
-  bound_version handle none b = refl
-  bound_version handle (some c) none = refl
-  bound_version handle (some c) (some b) = with_version s handle (some (rebound c b.width b.columns))
+  bound_version : (handle : ℕ) (c : Option Cursor) (b : Option Bindings) → version_of (Some (bound_to s handle c b)) ≡ Some s.version
+  bound_version handle None b = refl
+  bound_version handle (Some c) None = refl
+  bound_version handle (Some c) (Some b) = with_version s handle (Some (rebound c b.width b.columns))
 
   pub done_version : Kind (msg_of m)
-      → version_of (done_on rows (kind_of (msg_of m)) s m).after ≡ pick (eqb (msg_of m) 0xC9) none (some s.version)
+      → version_of (done_on rows (kind_of (msg_of m)) s m).after ≡ pick (eqb (msg_of m) 0xC9) None (Some s.version)
   done_version (leaves a k) = rw (k, a)
-  done_version (frees a b k) = rw (k, a) (with_version s (handle_of m) none)
+  done_version (frees a b k) = rw (k, a) (with_version s (handle_of m) None)
   done_version (fetches a b d k) = rw (k, a) (rows_version (handle_of m) (cursor_in s (handle_of m)) (request m))
   done_version (binds a b d k) = rw (k, a) (bound_version (handle_of m) (cursor_in s (handle_of m)) (bindings m))
 
 message_version : (rows : List Row) (held : Option Seat) (m : List ℕ) → first_cause (seat_causes rows held m) ≡ 0
-    → version_of (seat_message rows held m).after ≡ pick (eqb (msg_of m) 0xC9) none (version_of held)
+    → version_of (seat_message rows held m).after ≡ pick (eqb (msg_of m) 0xC9) None (version_of held)
 unfolding seat_message first_cause
-message_version rows none m e =
+message_version rows None m e =
     by_test (served (msg_of m))
     (λ q. absurd (let z : ◌≡◌ {A = ℕ} 7 0 = rw q at e in omega arith))
     (λ q. absurd (let z : ◌≡◌ {A = ℕ} 6 0 = rw q at e in omega arith))
-message_version rows (some s) m e =
-    rw (eq-eqb (first_cause (seat_causes rows (some s) m)) 0 e) (done_version rows s m (accepted_kind rows s m e).0)
+message_version rows (Some s) m e =
+    rw (eq-eqb (first_cause (seat_causes rows (Some s) m)) 0 e) (done_version rows s m (accepted_kind rows s m e).0)
 
 -- a call by its seat alone
 message_own : (src : Sources) (seat : ℕ) (held : Option Seat) (k : ℕ) (m : List ℕ) (room : ℕ) → eqb k seat ≡ true
@@ -88,13 +88,13 @@ own_version : (src : Sources) (seat : ℕ) (held : Option Seat) (c : Call) → S
     → (own_step src held c).answer.refusal ≡ 0
     → version_of (own_step src held c).after ≡ version_after seat (version_of held) c (own_step src held c).answer
 unfolding first_cause
-own_version src seat none (connecting k version) f same e = rw same
-own_version src seat (some s) (connecting k version) f same e = absurd (let z : ◌≡◌ {A = ℕ} 7 0 = e in omega arith)
-own_version src seat none (opening k tree) f same e = absurd (let z : ◌≡◌ {A = ℕ} 7 0 = e in omega arith)
-own_version src seat (some s) (opening k tree) f same e =
-    by_test (eqb (first_cause (open_causes (some s) tree)) 0)
-    (λ q. rw q (with_version s (free_handle s) (some (opened (selected_by (restriction tree) src.rows)))))
-    (λ q. absurd (eqb-false (first_cause (open_causes (some s) tree)) 0 q (rw q at e)))
+own_version src seat None (connecting k version) f same e = rw same
+own_version src seat (Some s) (connecting k version) f same e = absurd (let z : ◌≡◌ {A = ℕ} 7 0 = e in omega arith)
+own_version src seat None (opening k tree) f same e = absurd (let z : ◌≡◌ {A = ℕ} 7 0 = e in omega arith)
+own_version src seat (Some s) (opening k tree) f same e =
+    by_test (eqb (first_cause (open_causes (Some s) tree)) 0)
+    (λ q. rw q (with_version s (free_handle s) (Some (opened (selected_by (restriction tree) src.rows)))))
+    (λ q. absurd (eqb-false (first_cause (open_causes (Some s) tree)) 0 q (rw q at e)))
 own_version src seat held (messaging k m room) f same e = message_own src seat held k m room same e
 
 version_follows : (src : Sources) (seat : ℕ) → Follows src seat version_of (version_after seat)
@@ -113,7 +113,7 @@ version_step s t c seat h = step_followed s seat version_of (version_after seat)
 
 -- from the fresh table on: whether a seat is connected, and with which version
 pub version_told : (s : List ℕ) (calls : List Call) (seat : ℕ) → seat < seats
-    → version_of (seat_held (after (sources_of s) fresh_table calls) seat) ≡ seat_told seat none (history (sources_of s) fresh_table calls)
+    → version_of (seat_held (after (sources_of s) fresh_table calls) seat) ≡ seat_told seat None (history (sources_of s) fresh_table calls)
 version_told s calls seat h =
     after_followed s seat version_of (version_after seat) (version_follows (sources_of s) seat) h fresh_table calls
     ∙ ap (λ (o : Option Seat). seat_told seat (version_of o) (history (sources_of s) fresh_table calls)) (fresh_seat seat h)
@@ -127,8 +127,8 @@ seat_told_lem s calls seat h =
   where
     by_parts : (held : Option Seat) {version : Option ℕ} {first second : Option Cursor}
         → version_of held ≡ version → cursor_by held 1 ≡ first → cursor_by held 2 ≡ second → held ≡ seat_from version first second
-    by_parts none a b c = rw (sym a)
-    by_parts (some k) a b c = rw (sym a, sym b, sym c)
+    by_parts None a b c = rw (sym a)
+    by_parts (Some k) a b c = rw (sym a, sym b, sym c)
 
 -- word for word: no word of the seat's says anything else
 pub words_told : (s : List ℕ) (calls : List Call) (seat : ℕ) → seat < seats
@@ -138,7 +138,7 @@ words_told s calls seat h =
     words_is (after (sources_of s) fresh_table calls) (reached_well s calls) seat h ∙ ap seat_words (seat_told_lem s calls seat h)
 
 -- and each refusal of a call to one of the eight seats is the first of the causes from 4 on that apply to what is told
-module _ (s : List ℕ) (rows : List Row) (e : catalogue s ≡ some rows) (calls : List Call) (c : Call) (h : seat_of_call c < seats) where
+module _ (s : List ℕ) (rows : List Row) (e : catalogue s ≡ Some rows) (calls : List Call) (c : Call) (h : seat_of_call c < seats) where
   pub refusal_told : (step (sources_of s) (after (sources_of s) fresh_table calls) c).refusal
       ≡ first_cause (causes_on (sources_of s) (whole_seat_told (sources_of s) (seat_of_call c) (history (sources_of s) fresh_table calls)) c)
   refusal_told =

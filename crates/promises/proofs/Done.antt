@@ -1,7 +1,7 @@
 -- An accepted connecting leaves a fresh seat, and an accepted message answers by its number. Assumes nothing.
 use mathlib.Core.Path.{◌≡◌, refl, sym, ap, subst, ◌∙◌}
 use mathlib.Core.List.{List, ◌++◌}
-use mathlib.Core.Option.{Option, none, some}
+use Rattle.std.specs.Prelude.{Option, None, Some}
 use Prim.Native.Nat.{ℕ}
 use native.Mathlib.Omega.{arith}
 use borrow.Author.Tests.{eq-eqb, ne_eqb, eqb-false}
@@ -27,13 +27,13 @@ use Rattle.promises.proofs.Connected.{done_version}
 
 -- a connecting that its seat accepts: the seat was not connected, and is then fresh
 own_connects : (src : Sources) (held : Option Seat) (k version : ℕ) → (own_step src held (connecting k version)).answer.refusal ≡ 0
-    → (held ≡ none) × ((own_step src held (connecting k version)).after ≡ some (fresh version))
+    → (held ≡ None) × ((own_step src held (connecting k version)).after ≡ Some (fresh version))
 unfolding first_cause
-own_connects src none k version e = (refl, refl)
-own_connects src (some s) k version e = absurd (let z : ◌≡◌ {A = ℕ} 7 0 = e in omega arith)
+own_connects src None k version e = (refl, refl)
+own_connects src (Some s) k version e = absurd (let z : ◌≡◌ {A = ℕ} 7 0 = e in omega arith)
 
 pub connects : (s t : List ℕ) (seat version : ℕ) → (step (sources_of s) t (connecting seat version)).refusal ≡ 0
-    → (seat_held t seat ≡ none) × (seat_held (step (sources_of s) t (connecting seat version)).words seat ≡ some (fresh version))
+    → (seat_held t seat ≡ None) × (seat_held (step (sources_of s) t (connecting seat version)).words seat ≡ Some (fresh version))
 connects s t seat version z =
     let a = accepted_passes (sources_of s) t (connecting seat version) z in
     let l = step_alone s t (record { well = a.table_in; holds = a.rows_in }) (connecting seat version) a.seat_in_lem in
@@ -44,13 +44,13 @@ connects s t seat version z =
 seat_done : (rows : List Row) (held : Option Seat) (m : List ℕ) → first_cause (seat_causes rows held m) ≡ 0
     → Done m held (seat_message rows held m).after (seat_message rows held m).reply
 unfolding seat_message first_cause kind_from
-seat_done rows none m e =
+seat_done rows None m e =
     by_test (served (msg_of m))
     (λ q. absurd (let z : ◌≡◌ {A = ℕ} 7 0 = rw q at e in omega arith))
     (λ q. absurd (let z : ◌≡◌ {A = ℕ} 6 0 = rw q at e in omega arith))
-seat_done rows (some s) m e =
+seat_done rows (Some s) m e =
     let version = done_version rows s m (accepted_kind rows s m e).0 in
-    rw (eq-eqb (first_cause (seat_causes rows (some s) m)) 0 e)
+    rw (eq-eqb (first_cause (seat_causes rows (Some s) m)) 0 e)
     record {
       left = λ g. let k : kind_of (msg_of m) ≡ 0 = ap kind_of g in rw k (refl, refl);
       freed = λ g.

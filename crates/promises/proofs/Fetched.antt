@@ -2,7 +2,7 @@
 use mathlib.Core.Path.{◌≡◌, refl, sym, ap, subst, ◌∙◌}
 use mathlib.Core.Bool.{true}
 use mathlib.Core.List.{List, ◌++◌}
-use mathlib.Core.Option.{Option, none, some}
+use Rattle.std.specs.Prelude.{Option, None, Some}
 use Prim.Native.Nat.{ℕ, ◌≤◌, ◌<◌}
 use native.Mathlib.Omega.{arith}
 use borrow.Author.Tests.{eqb-false, eq-eqb}
@@ -34,13 +34,13 @@ use Rattle.promises.proofs.Replies.{rows_held, reply_is}
 use Rattle.promises.proofs.Carried.{open_handle, accepted_kind, after_told}
 
 -- the fresh table holds no cursor
-pub fresh_none : (seat handle : ℕ) → seat < seats → held_cursor fresh_table seat handle ≡ none
+pub fresh_none : (seat handle : ℕ) → seat < seats → held_cursor fresh_table seat handle ≡ None
 fresh_none seat handle h = ap (λ (o : Option Seat). cursor_by o handle) (fresh_seat seat h)
 
 -- from the fresh table on, every cursor is what the calls and their answers tell
 pub cursor_told_lem : (s : List ℕ) (calls : List Call) (seat handle : ℕ) → seat < seats → Handle handle
     → held_cursor (after (sources_of s) fresh_table calls) seat handle
-    ≡ cursor_told (sources_of s) seat handle none (history (sources_of s) fresh_table calls)
+    ≡ cursor_told (sources_of s) seat handle None (history (sources_of s) fresh_table calls)
 cursor_told_lem s calls seat handle h n =
     after_told s fresh_table calls seat handle h n
     ∙ ap (λ (o : Option Cursor). cursor_told (sources_of s) seat handle o (history (sources_of s) fresh_table calls)) (fresh_none seat handle h)
@@ -49,25 +49,25 @@ cursor_told_lem s calls seat handle h n =
 pub record Served (rows : List Row) (held : Option Seat) (m : List ℕ) : Type 0 where
   pub cursor : Cursor
   pub asked : Request
-  pub holds : cursor_by held (handle_of m) ≡ some cursor
+  pub holds : cursor_by held (handle_of m) ≡ Some cursor
   pub handle : Handle (handle_of m)
-  pub body : request m ≡ some asked
+  pub body : request m ≡ Some asked
   pub fits : CursorFits cursor
   pub bound : fit cursor.width cursor.columns ≡ true
   pub sound : Sound asked
   pub reply : (seat_message rows held m).reply ≡ fetch_reply rows cursor asked
 
-reply_of : (rows : List Row) (s : Seat) (m : List ℕ) (c : Cursor) (q : Request) → cursor_in s (handle_of m) ≡ some c → request m ≡ some q
+reply_of : (rows : List Row) (s : Seat) (m : List ℕ) (c : Cursor) (q : Request) → cursor_in s (handle_of m) ≡ Some c → request m ≡ Some q
     → (done_on rows 2 s m).reply ≡ fetch_reply rows c q
 reply_of rows s m c q h b = rw (h, b)
 
 pub seat_served : (rows : List Row) (held : Option Seat) (m : List ℕ) → SeatOk held → first_cause (seat_causes rows held m) ≡ 0 → msg_of m ≡ 0xCC → Served rows held m
 unfolding seat_message first_cause kind_from
-seat_served rows none m f e g =
+seat_served rows None m f e g =
     by_test (served (msg_of m))
     (λ q. absurd (let z : ◌≡◌ {A = ℕ} 7 0 = rw q at e in omega arith))
     (λ q. absurd (let z : ◌≡◌ {A = ℕ} 6 0 = rw q at e in omega arith))
-seat_served rows (some s) m f e g =
+seat_served rows (Some s) m f e g =
     let k : kind_of (msg_of m) ≡ 2 = ap kind_of g in
     let r = fetching rows s m f (rw k at (accepted_kind rows s m e).1) in
     record {
@@ -79,7 +79,7 @@ seat_served rows (some s) m f e g =
       fits = r.fits;
       bound = r.bound;
       sound = r.sound;
-      reply = rw (eq-eqb (first_cause (seat_causes rows (some s) m)) 0 e, k) (reply_of rows s m r.cursor r.asked r.held r.body);
+      reply = rw (eq-eqb (first_cause (seat_causes rows (Some s) m)) 0 e, k) (reply_of rows s m r.cursor r.asked r.held r.body);
     }
 
 -- a message that is accepted is accepted by its seat, whose reply it is
@@ -93,7 +93,7 @@ by_seat src t seat m room =
     (λ q. rw q (λ z. absurd (eqb-false (first_cause (judging src t seat ++ sizing m room)) 0 q z)))
 
 -- demand 2: the reply to an accepted request for rows, in any table
-pub sends : (s : List ℕ) (rows : List Row) → catalogue s ≡ some rows → (t : List ℕ) (seat : ℕ) (m : List ℕ) (room : ℕ)
+pub sends : (s : List ℕ) (rows : List Row) → catalogue s ≡ Some rows → (t : List ℕ) (seat : ℕ) (m : List ℕ) (room : ℕ)
     → (step (sources_of s) t (messaging seat m room)).refusal ≡ 0 → msg_of m ≡ 0xCC
     → Sends rows t seat m (step (sources_of s) t (messaging seat m room)).reply × Handle (handle_of m)
 sends s rows e t seat m room z g =
@@ -116,7 +116,7 @@ sends s rows e t seat m room z g =
 
 -- a cursor that is told has carried no more rows than its selection has, and no row stands in its selection twice
 pub told_fits : (s : List ℕ) (calls : List Call) (seat handle : ℕ) → seat < seats → Handle handle → (c : Cursor)
-    → cursor_told (sources_of s) seat handle none (history (sources_of s) fresh_table calls) ≡ some c
+    → cursor_told (sources_of s) seat handle None (history (sources_of s) fresh_table calls) ≡ Some c
     → (c.position ≤ length c.selection) × Rises c.selection
 told_fits s calls seat handle h n c e =
     let t = after (sources_of s) fresh_table calls in
@@ -125,5 +125,5 @@ told_fits s calls seat handle h n c e =
     (f.position, f.rising)
   where
     held_ok : (o : Option Seat) → SeatOk o → CursorOk (cursor_by o handle)
-    held_ok none w = tt
-    held_ok (some k) w = cursor_ok k handle w
+    held_ok None w = tt
+    held_ok (Some k) w = cursor_ok k handle w

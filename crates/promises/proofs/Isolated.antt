@@ -1,7 +1,7 @@
 -- A seat's answers and replies are those that its own calls get alone, so they depend on no other seat's. Assumes nothing.
 use mathlib.Core.Path.{◌≡◌, refl, sym, ap, ap₂, subst, ◌∙◌}
 use mathlib.Core.List.{List, [], ◌∷◌}
-use mathlib.Core.Option.{Option, none, some}
+use Rattle.std.specs.Prelude.{Option, None, Some}
 use Prim.Native.Nat.{ℕ, ◌<◌}
 use native.Mathlib.Omega.{arith}
 use borrow.Author.Tests.{eqb-true, eqb-false, lt-ltb, ltb-true, ltb-false}
@@ -97,7 +97,7 @@ no_seat_history src k h (c ∷ calls) t u =
     (λ q. rw q (no_seat_history src k h calls (step src t c).words u))
 
 -- over a malformed catalogue no call changes the table
-malformed_history : (src : Sources) (k : ℕ) → src.rows ≡ none → (calls : List Call) (t u : List ℕ) → t ≡ u
+malformed_history : (src : Sources) (k : ℕ) → src.rows ≡ None → (calls : List Call) (t u : List ℕ) → t ≡ u
     → own_events k (history src t calls) ≡ history src u (own_calls k calls)
 unfolding history own_calls own_events
 malformed_history src k m [] t u e = refl
@@ -119,8 +119,8 @@ as_alone s seat calls = go (catalogue s) refl
   where
     go : (o : Option (List Row)) → catalogue s ≡ o
         → own_events seat (history (sources_of s) fresh_table calls) ≡ history (sources_of s) fresh_table (own_calls seat calls)
-    go none e = malformed_history (sources_of s) seat e calls fresh_table fresh_table refl
-    go (some rows) e =
+    go None e = malformed_history (sources_of s) seat e calls fresh_table fresh_table refl
+    go (Some rows) e =
         by_test (ltb 7 seat)
         (λ q. no_seat_history (sources_of s) seat (ltb-true 7 seat q) calls fresh_table fresh_table)
         (λ q.

@@ -3,7 +3,7 @@ use mathlib.Core.Path.{◌≡◌, refl, sym, ap, ap₂, subst, ◌∙◌}
 use mathlib.Core.Bool.{true, false}
 use mathlib.Core.List.{List, ◌++◌}
 use mathlib.Core.Logic.{◌⊎◌, inl, inr}
-use mathlib.Core.Option.{Option, none, some}
+use Rattle.std.specs.Prelude.{Option, None, Some}
 use Prim.Native.Nat.{ℕ}
 use native.Mathlib.Omega.{arith}
 use borrow.Author.Tests.{eq-eqb}
@@ -34,9 +34,9 @@ record Admitted (s t : List ℕ) (seat : ℕ) (bytes : List ℕ) : Type 0 where
   rows : List Row
   tree : Tree
   held : Seat
-  parsed : catalogue s ≡ some rows
-  read : restriction bytes ≡ some tree
-  holds : seat_held t seat ≡ some held
+  parsed : catalogue s ≡ Some rows
+  read : restriction bytes ≡ Some tree
+  holds : seat_held t seat ≡ Some held
   free : eqb (free_handle held) 0 ≡ false
   given : (open_step (sources_of s) t seat bytes).handle ≡ free_handle held
 
@@ -53,9 +53,9 @@ admitted s t seat bytes z =
         → (o : Option Seat) → seat_held t seat ≡ o → first_cause (open_causes o bytes) ≡ 0
         → (open_step (sources_of s) t seat bytes).handle ≡ (open_done (sources_of s) t seat bytes (seat_held t seat)).handle
         → Admitted s t seat bytes
-    go none p h read r o q e g = absurd (true≢false (sym h))
-    go (some rows) p h read r none q e g = absurd (let w : ◌≡◌ {A = ℕ} 7 0 = e in omega arith)
-    go (some rows) p h read r (some k) q e g =
+    go None p h read r o q e g = absurd (true≢false (sym h))
+    go (Some rows) p h read r None q e g = absurd (let w : ◌≡◌ {A = ℕ} 7 0 = e in omega arith)
+    go (Some rows) p h read r (Some k) q e g =
         by_test (eqb (free_handle k) 0)
         (λ l. absurd (let w : ◌≡◌ {A = ℕ} 14 0 = rw l at e in omega arith))
         (λ l.
@@ -64,8 +64,8 @@ admitted s t seat bytes z =
         (λ i. absurd (let w : ◌≡◌ {A = ℕ} 16 0 = rw (l, i) at e in omega arith)))
       where
         has_tree : (x : Option Tree) → restriction bytes ≡ x → is_tree x ≡ true → eqb (free_handle k) 0 ≡ false → Admitted s t seat bytes
-        has_tree none r i l = absurd (true≢false (sym i))
-        has_tree (some tree) r i l =
+        has_tree None r i l = absurd (true≢false (sym i))
+        has_tree (Some tree) r i l =
             record {
               rows = rows;
               tree = tree;
@@ -78,11 +78,11 @@ admitted s t seat bytes z =
             }
 
 -- the handle that is given is the lowest that is free
-still_open_lem : (o : Option Cursor) → is_open o ≡ true → o ≡ none → ⊥
+still_open_lem : (o : Option Cursor) → is_open o ≡ true → o ≡ None → ⊥
 still_open_lem o e n = true≢false (sym e ∙ ap is_open n)
 
 lowest : (k : Seat) → eqb (free_handle k) 0 ≡ false
-    → (cursor_in k (free_handle k) ≡ none) × ((free_handle k ≡ 1) ⊎ ((free_handle k ≡ 2) × (cursor_in k 1 ≡ none → ⊥)))
+    → (cursor_in k (free_handle k) ≡ None) × ((free_handle k ≡ 1) ⊎ ((free_handle k ≡ 2) × (cursor_in k 1 ≡ None → ⊥)))
 lowest k e =
     by_test (is_open k.first)
     (λ q.
@@ -92,7 +92,7 @@ lowest k e =
     (λ q. rw q (closed k.first q, inl refl))
 
 begun : (src : Sources) (seat : ℕ) (tree : List ℕ) (a : Answer) (c : Option Cursor) → a.refusal ≡ 0
-    → after_call (cursor_account src) seat a.handle c (opening seat tree) a ≡ some (opened (selected_by (restriction tree) src.rows))
+    → after_call (cursor_account src) seat a.handle c (opening seat tree) a ≡ Some (opened (selected_by (restriction tree) src.rows))
 begun src seat tree a c e = rw (eq-eqb seat seat refl, eq-eqb a.refusal 0 e, eq-eqb a.handle a.handle refl)
 
 pub opens : (s t : List ℕ) (seat : ℕ) (bytes : List ℕ) → (step (sources_of s) t (opening seat bytes)).refusal ≡ 0
@@ -113,11 +113,11 @@ opens s t seat bytes z =
       selects = record { has = selection_has x.tree x.rows _; rises = selection_rises x.tree x.rows };
       free = by o.handle ∙ ap (cursor_in x.held) x.given ∙ l.0;
       lowest =
-          subst (λ (h : ℕ). (h ≡ 1) ⊎ ((h ≡ 2) × (held_cursor t seat 1 ≡ none → ⊥))) (sym x.given)
-          (subst (λ (c : Option Cursor). (free_handle x.held ≡ 1) ⊎ ((free_handle x.held ≡ 2) × (c ≡ none → ⊥))) (sym (by 1)) l.1);
+          subst (λ (h : ℕ). (h ≡ 1) ⊎ ((h ≡ 2) × (held_cursor t seat 1 ≡ None → ⊥))) (sym x.given)
+          (subst (λ (c : Option Cursor). (free_handle x.held ≡ 1) ⊎ ((free_handle x.held ≡ 2) × (c ≡ None → ⊥))) (sym (by 1)) l.1);
       version = (x.held, x.holds, version_step s t (opening seat bytes) seat a.seat_in_lem ∙ ap version_of x.holds);
       cursor =
           step_told s t (opening seat bytes) seat o.handle a.seat_in_lem n
           ∙ begun (sources_of s) seat bytes (answer_of o) (held_cursor t seat o.handle) z
-          ∙ ap (λ (i : List ℕ). some (opened i)) (ap₂ selected_by x.read x.parsed);
+          ∙ ap (λ (i : List ℕ). Some (opened i)) (ap₂ selected_by x.read x.parsed);
     }

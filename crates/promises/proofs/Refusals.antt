@@ -3,7 +3,7 @@ use mathlib.Core.Path.{◌≡◌, refl, sym, ◌∙◌}
 use mathlib.Core.Bool.{Bool, true, not}
 use mathlib.Core.List.{List, [], ◌∷◌, ◌++◌}
 use mathlib.Core.Logic.{◌↔◌}
-use mathlib.Core.Option.{Option, none, some}
+use Rattle.std.specs.Prelude.{Option, None, Some}
 use Prim.Native.Nat.{ℕ}
 use native.Mathlib.Omega.{arith}
 use borrow.Author.Tests.{eqb-true, eqb-false}
@@ -25,9 +25,9 @@ use Rattle.promises.proofs.First.{exact, exact_none, risen_numbered}
 
 -- the causes of each call rise by number: none stands twice, none is 0, and those of a seat are above 5
 rows_rise : (rows : List Row) (c : Option Cursor) (q : Option Request) → Risen 10 (rows_causes rows c q)
-rows_rise rows none q = tt
-rows_rise rows (some c) none = tt
-rows_rise rows (some c) (some q) = (omega arith, (omega arith, (omega arith, (omega arith, tt))))
+rows_rise rows None q = tt
+rows_rise rows (Some c) None = tt
+rows_rise rows (Some c) (Some q) = (omega arith, (omega arith, (omega arith, (omega arith, tt))))
 
 body_rise : (rows : List Row) (s : Seat) (m : List ℕ) → Risen 8 (body_causes rows (kind_of (msg_of m)) s m)
 body_rise rows s m =
@@ -42,12 +42,12 @@ body_rise rows s m =
     (λ l. rw (q, r, l) (omega arith, (omega arith, (omega arith, tt))))))
 
 pub seat_rise : (rows : List Row) (held : Option Seat) (m : List ℕ) → Risen 5 (seat_causes rows held m)
-seat_rise rows none m = (omega arith, (omega arith, tt))
-seat_rise rows (some s) m = (omega arith, (omega arith, (omega arith, body_rise rows s m)))
+seat_rise rows None m = (omega arith, (omega arith, tt))
+seat_rise rows (Some s) m = (omega arith, (omega arith, (omega arith, body_rise rows s m)))
 
 open_rise : (held : Option Seat) (tree : List ℕ) → Risen 3 (open_causes held tree)
-open_rise none tree = (omega arith, tt)
-open_rise (some s) tree = (omega arith, (omega arith, (omega arith, tt)))
+open_rise None tree = (omega arith, tt)
+open_rise (Some s) tree = (omega arith, (omega arith, (omega arith, tt)))
 
 on_seat_rise : (src : Sources) (held : Option Seat) (c : Call) → Risen 3 (causes_on src held c)
 on_seat_rise src held (connecting seat version) = (omega arith, tt)
@@ -69,9 +69,9 @@ sizing_numbered m room = ((λ e. omega arith), ((λ e. omega arith), tt))
 -- what a message that its seat accepts does is no refusal
 module _ (rows : List Row) (m : List ℕ) where
   sent_rows : (s : Seat) (c : Option Cursor) (q : Option Request) → (rows_done rows s (handle_of m) c q).refusal ≡ 0
-  sent_rows s none q = refl
-  sent_rows s (some c) none = refl
-  sent_rows s (some c) (some q) = refl
+  sent_rows s None q = refl
+  sent_rows s (Some c) None = refl
+  sent_rows s (Some c) (Some q) = refl
 
   done_on_lem : (kind : ℕ) (s : Seat) → (done_on rows kind s m).refusal ≡ 0
   done_on_lem kind s =
@@ -84,10 +84,10 @@ module _ (rows : List Row) (m : List ℕ) where
 
   pub done_by_lem : (held : Option Seat) → first_cause (seat_causes rows held m) ≡ 0 → (done_by rows held m).refusal ≡ 0
   unfolding first_cause
-  done_by_lem none e =
+  done_by_lem None e =
       let b = first_both ((6, not (served (msg_of m))) ∷ []) ((7, true) ∷ []) ((λ z. omega arith), tt) e in
       absurd (let z : ◌≡◌ {A = ℕ} 7 0 = b.1 in omega arith)
-  done_by_lem (some s) e = done_on_lem (kind_of (msg_of m)) s
+  done_by_lem (Some s) e = done_on_lem (kind_of (msg_of m)) s
 
 -- the refusal of a message on its seat is the first of the seat's causes
 pub seat_refusal : (rows : List Row) (held : Option Seat) (m : List ℕ) → (seat_message rows held m).refusal ≡ first_cause (seat_causes rows held m)
@@ -107,10 +107,10 @@ connect_refusal src t seat version =
     (λ q. rw q)
 
 -- an unconnected seat refuses an opening
-pub open_none : (src : Sources) (t : List ℕ) (seat : ℕ) (tree : List ℕ) → first_cause (judging src t seat ++ open_causes none tree) ≡ 0 → ⊥
+pub open_none : (src : Sources) (t : List ℕ) (seat : ℕ) (tree : List ℕ) → first_cause (judging src t seat ++ open_causes None tree) ≡ 0 → ⊥
 unfolding first_cause
 open_none src t seat tree e =
-    let b = first_both (judging src t seat) (open_causes none tree) (judging_numbered src t seat) e in
+    let b = first_both (judging src t seat) (open_causes None tree) (judging_numbered src t seat) e in
     let z : ◌≡◌ {A = ℕ} 7 0 = b.1 in
     omega arith
 
@@ -124,8 +124,8 @@ open_refusal src t seat tree =
     (λ q. rw q)
   where
     done : (held : Option Seat) → seat_held t seat ≡ held → first_cause (judging src t seat ++ open_causes held tree) ≡ 0 → (open_done src t seat tree held).refusal ≡ 0
-    done none h e = absurd (open_none src t seat tree e)
-    done (some s) h e = refl
+    done None h e = absurd (open_none src t seat tree e)
+    done (Some s) h e = refl
 
 -- 1 to 5, and then those of the seat
 pub early_causes_lem : (src : Sources) (t : List ℕ) (seat : ℕ) (m : List ℕ) (room : ℕ) → first_cause (judging src t seat ++ sizing m room) ≡ 0

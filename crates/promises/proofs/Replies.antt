@@ -4,7 +4,7 @@ use mathlib.Core.Path.{◌≡◌, refl, sym, ap, ap₂, subst, ◌∙◌}
 use mathlib.Core.Bool.{true}
 use mathlib.Core.List.{List, [], ◌∷◌, map}
 use mathlib.Core.Logic.{◌↔◌, ◌⊎◌, inl, inr, ⊎_elim}
-use mathlib.Core.Option.{none, some}
+use Rattle.std.specs.Prelude.{None, Some}
 use Prim.Native.Nat.{ℕ, zero, suc, ◌+◌, ◌*◌, ◌≤◌, ◌<◌}
 use native.Mathlib.Nat.{not-suc-le-zero, le_of_suc-le-suc}
 use native.Mathlib.Omega.{arith}
@@ -46,7 +46,7 @@ row_of_lem f (n ∷ l) zero h = refl
 row_of_lem f (n ∷ l) (suc j) h = row_of_lem f l j (le_of_suc-le-suc h)
 
 -- the fields of a catalogue's rows have room in their cells
-none_held : (property : ℕ) → Held (field_of property (record { key = 0; language = 0; default = 0; label = none; note = none }))
+none_held : (property : ℕ) → Held (field_of property (record { key = 0; language = 0; default = 0; label = None; note = None }))
 none_held property =
     by_test (eqb property 2)
     (λ a. rw a (omega arith))
@@ -63,14 +63,14 @@ seen_held s [] i property = none_held property
 seen_held s (p ∷ at) zero property = held_seen s p property
 seen_held s (p ∷ at) (suc i) property = seen_held s at i property
 
-pub rows_held : (s : List ℕ) (rows : List Row) → catalogue s ≡ some rows → (i property : ℕ) → Held (field_of property (row_in rows i))
+pub rows_held : (s : List ℕ) (rows : List Row) → catalogue s ≡ Some rows → (i property : ℕ) → Held (field_of property (row_in rows i))
 rows_held s rows e i property =
     by_test (accepted s)
     (λ q.
-    let seen : catalogue s ≡ some (map (row_seen s) (places s)) = catalogue_agrees s ∙ rw q in
+    let seen : catalogue s ≡ Some (map (row_seen s) (places s)) = catalogue_agrees s ∙ rw q in
     subst (λ (x : List Row). Held (field_of property (row_in x i))) (some_is (sym seen ∙ e)) (seen_held s (places s) i property))
     (λ q.
-    let seen : catalogue s ≡ none = catalogue_agrees s ∙ rw q in
+    let seen : catalogue s ≡ None = catalogue_agrees s ∙ rw q in
     absurd (none≢some (sym seen ∙ e)))
 
 module _ (rows : List Row) (held : (i property : ℕ) → Held (field_of property (row_in rows i))) (c : Cursor) (q : Request) (fits : CursorFits c)

@@ -3,7 +3,7 @@ use mathlib.Core.Path.{◌≡◌, refl, sym, ap, subst, ◌∙◌}
 use mathlib.Core.Bool.{true, false, not}
 use mathlib.Core.List.{List, [], ◌∷◌, ◌++◌, append-nil}
 use mathlib.Core.Logic.{⊎_elim}
-use mathlib.Core.Option.{Option, none, some}
+use Rattle.std.specs.Prelude.{Option, None, Some}
 use Prim.Native.Nat.{ℕ, ◌+◌, ◌*◌, ◌^◌, ◌≤◌, ◌<◌}
 use native.Mathlib.Omega.{arith}
 use borrow.Author.Tests.{eq-eqb, eqb-true}
@@ -33,7 +33,7 @@ use Rattle.message.specs.Message.{handle_of, unasked, rows_causes, body_causes}
 use Rattle.table.specs.Open.{is_open}
 
 -- the cursors of a seat that fits
-pub cursor_ok : (s : Seat) (handle : ℕ) → SeatOk (some s) → CursorOk (cursor_in s handle)
+pub cursor_ok : (s : Seat) (handle : ℕ) → SeatOk (Some s) → CursorOk (cursor_in s handle)
 cursor_ok s handle f =
     by_test (eqb handle 1)
     (λ q. rw q f.0)
@@ -53,8 +53,8 @@ bytes_are size from width base status columns rows f h r =
 pub record Fetching (rows : List Row) (s : Seat) (m : List ℕ) : Type 0 where
   pub cursor : Cursor
   pub asked : Request
-  pub held : cursor_in s (handle_of m) ≡ some cursor
-  pub body : request m ≡ some asked
+  pub held : cursor_in s (handle_of m) ≡ Some cursor
+  pub body : request m ≡ Some asked
   pub fits : CursorFits cursor
   pub bound : fit cursor.width cursor.columns ≡ true
   pub width : asked.width ≡ cursor.width
@@ -68,16 +68,16 @@ bound_fit c f u =
     (λ (w : fit c.width c.columns ≡ true). w)
     f.bound
 
-pub fetching : (rows : List Row) (s : Seat) (m : List ℕ) → SeatOk (some s) → first_cause (body_causes rows 2 s m) ≡ 0 → Fetching rows s m
+pub fetching : (rows : List Row) (s : Seat) (m : List ℕ) → SeatOk (Some s) → first_cause (body_causes rows 2 s m) ≡ 0 → Fetching rows s m
 unfolding first_cause
 fetching rows s m f e = go (cursor_in s (handle_of m)) refl (request m) refl e
   where
     go : (o : Option Cursor) → cursor_in s (handle_of m) ≡ o → (x : Option Request) → request m ≡ x
         → first_cause ((9, unasked x) ∷ (10, not (is_open o)) ∷ rows_causes rows o x) ≡ 0 → Fetching rows s m
-    go none h none b w = absurd (let z : ◌≡◌ {A = ℕ} 9 0 = w in omega arith)
-    go none h (some q) b w = absurd (let z : ◌≡◌ {A = ℕ} 10 0 = w in omega arith)
-    go (some c) h none b w = absurd (let z : ◌≡◌ {A = ℕ} 9 0 = w in omega arith)
-    go (some c) h (some q) b w =
+    go None h None b w = absurd (let z : ◌≡◌ {A = ℕ} 9 0 = w in omega arith)
+    go None h (Some q) b w = absurd (let z : ◌≡◌ {A = ℕ} 10 0 = w in omega arith)
+    go (Some c) h None b w = absurd (let z : ◌≡◌ {A = ℕ} 9 0 = w in omega arith)
+    go (Some c) h (Some q) b w =
         let fits : CursorFits c = subst CursorOk h (cursor_ok s (handle_of m) f) in
         by_test (unbound c)
         (λ u. absurd (let z : ◌≡◌ {A = ℕ} 11 0 = rw u at w in omega arith))

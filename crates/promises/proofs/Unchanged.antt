@@ -1,7 +1,7 @@
 -- "No refusal changes the table", and what it writes, for every call. Assumes nothing.
 use mathlib.Core.Path.{◌≡◌, refl}
 use mathlib.Core.List.{List, [], ◌++◌}
-use mathlib.Core.Option.{Option, none, some}
+use Rattle.std.specs.Prelude.{Option, None, Some}
 use Prim.Native.Nat.{ℕ}
 use native.Mathlib.Omega.{arith}
 use borrow.Author.Tests.{eqb-true, lt-ltb, le-ltb}
@@ -30,8 +30,8 @@ open_quiet src t seat tree =
     by_test (eqb (first_cause (judging src t seat ++ open_causes (seat_held t seat) tree)) 0) (λ q. rw q (done (seat_held t seat))) (λ q. rw q)
   where
     done : (held : Option Seat) → (open_done src t seat tree held).reply ≡ []
-    done none = refl
-    done (some s) = refl
+    done None = refl
+    done (Some s) = refl
 
 -- a call answers what its kind does, and nothing else
 pub own_answer : (src : Sources) (t : List ℕ) (c : Call) → OwnAnswer c (step src t c)

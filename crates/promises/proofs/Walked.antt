@@ -4,7 +4,7 @@ use mathlib.Core.Path.{◌≡◌, refl, sym, ap, subst, ◌∙◌}
 use mathlib.Core.Bool.{true}
 use mathlib.Core.List.{List, [], ◌∷◌, ◌++◌, append-nil, append_assoc}
 use mathlib.Core.Logic.{◌↔◌, ◌⊎◌, inl, inr, ⊎_elim}
-use mathlib.Core.Option.{Option, none, some}
+use Rattle.std.specs.Prelude.{Option, None, Some}
 use Prim.Native.Nat.{ℕ, ◌+◌, ◌<◌}
 use native.Mathlib.Omega.{arith}
 use borrow.Author.Tests.{eq-eqb, eqb-true}
@@ -59,7 +59,7 @@ joined_further (first ∷ parts) part =
 -- the notes and the cursor after some calls
 record Kept (rows : List Row) (n : Notes) (c : Cursor) : Type 0 where
   tree : Tree
-  read : restriction n.tree ≡ some tree
+  read : restriction n.tree ≡ Some tree
   selects : Selects rows tree c.selection
   width : c.width ≡ n.width
   columns : c.columns ≡ n.columns
@@ -69,13 +69,13 @@ record Kept (rows : List Row) (n : Notes) (c : Cursor) : Type 0 where
   shows : EachShows rows c.selection [] parts n.pages
 
 abbrev Agree : List Row → Option Notes → Option Cursor → Type 0
-Agree rows none none = Unit {0}
-Agree rows (some n) (some c) = Kept rows n c
-Agree rows none (some c) = ⊥
-Agree rows (some n) none = ⊥
+Agree rows None None = Unit {0}
+Agree rows (Some n) (Some c) = Kept rows n c
+Agree rows None (Some c) = ⊥
+Agree rows (Some n) None = ⊥
 
 -- a reply that carries the next rows
-module _ (rows : List Row) (n : Notes) (c : Cursor) (k : Kept rows n c) (m reply : List ℕ) (q : Request) (body : request m ≡ some q)
+module _ (rows : List Row) (n : Notes) (c : Cursor) (k : Kept rows n c) (m reply : List ℕ) (q : Request) (body : request m ≡ Some q)
     (fit : Sound c.width c.columns) (says : RowsReply rows c q reply) where
   part : List ℕ
   part = page_numbers c reply
@@ -156,16 +156,16 @@ module _ (rows : List Row) (n : Notes) (c : Cursor) (k : Kept rows n c) (m reply
       }
 
 -- a call in any table, for a cursor that agrees with the notes
-module _ (s : List ℕ) (rows : List Row) (e : catalogue s ≡ some rows) (seat handle : ℕ) (h : seat < seats) (n : Handle handle) where
+module _ (s : List ℕ) (rows : List Row) (e : catalogue s ≡ Some rows) (seat handle : ℕ) (h : seat < seats) (n : Handle handle) where
   module _ (t : List ℕ) where
     begins : (tree : List ℕ) → (step (sources_of s) t (opening seat tree)).refusal ≡ 0 → (step (sources_of s) t (opening seat tree)).handle ≡ handle
-        → Agree rows (some (notes_account.begins tree)) (held_cursor (step (sources_of s) t (opening seat tree)).words seat handle)
+        → Agree rows (Some (notes_account.begins tree)) (held_cursor (step (sources_of s) t (opening seat tree)).words seat handle)
     unfolding joined
     begins tree z g =
         let x = opens s t seat tree z in
         let same : x.rows ≡ rows = some_is (sym x.parsed ∙ e) in
-        let cursor = subst (λ (j : ℕ). held_cursor (step (sources_of s) t (opening seat tree)).words seat j ≡ some (opened x.selection)) g x.cursor in
-        subst (Agree rows (some (notes_account.begins tree))) (sym cursor)
+        let cursor = subst (λ (j : ℕ). held_cursor (step (sources_of s) t (opening seat tree)).words seat j ≡ Some (opened x.selection)) g x.cursor in
+        subst (Agree rows (Some (notes_account.begins tree))) (sym cursor)
         record {
           tree = x.tree;
           read = x.read;
@@ -185,22 +185,22 @@ module _ (s : List ℕ) (rows : List Row) (e : catalogue s ≡ some rows) (seat 
       rows_agree : handle_of m ≡ handle → msg_of m ≡ 0xCC → (o : Option Notes) (p : Option Cursor) → held_cursor t seat handle ≡ p → Agree rows o p
           → Agree rows (changed (notes_account.carries m reply) o) (changed ((cursor_account (sources_of s)).carries m reply) p)
       unfolding reply
-      rows_agree g k none none w a = tt
-      rows_agree g k (some x) (some c) w a =
+      rows_agree g k None None w a = tt
+      rows_agree g k (Some x) (Some c) w a =
           let v = (sends s rows e t seat m room z k).0 in
           let same : v.cursor ≡ c = some_is (sym v.held ∙ ap (held_cursor t seat) g ∙ w) in
           carried rows x c a m (step (sources_of s) t (messaging seat m room)).reply v.asked v.body
           (subst (λ (y : Cursor). Sound y.width y.columns) same v.bound)
           (subst (λ (y : Cursor). RowsReply rows y v.asked (step (sources_of s) t (messaging seat m room)).reply) same v.says)
           (sources_of s)
-      rows_agree g k none (some c) w a = absurd a
-      rows_agree g k (some x) none w a = absurd a
+      rows_agree g k None (Some c) w a = absurd a
+      rows_agree g k (Some x) None w a = absurd a
 
       bound_agree : (b : Option Bindings) (o : Option Notes) (p : Option Cursor) → Agree rows o p
           → Agree rows (changed (bound notes_account.binds b) o) (changed (bound (cursor_account (sources_of s)).binds b) p)
-      bound_agree b none none a = tt
-      bound_agree none (some x) (some c) a = a
-      bound_agree (some b) (some x) (some c) a =
+      bound_agree b None None a = tt
+      bound_agree None (Some x) (Some c) a = a
+      bound_agree (Some b) (Some x) (Some c) a =
           record {
             tree = a.tree;
             read = a.read;
@@ -212,8 +212,8 @@ module _ (s : List ℕ) (rows : List Row) (e : catalogue s ≡ some rows) (seat 
             first = a.first;
             shows = a.shows;
           }
-      bound_agree b none (some c) a = absurd a
-      bound_agree b (some x) none a = absurd a
+      bound_agree b None (Some c) a = absurd a
+      bound_agree b (Some x) None a = absurd a
 
       message_agree : (o : Option Notes) → Agree rows o (held_cursor t seat handle)
           → Agree rows (after_message notes_account handle m reply o) (after_message (cursor_account (sources_of s)) handle m reply (held_cursor t seat handle))
@@ -295,15 +295,15 @@ module _ (s : List ℕ) (rows : List Row) (e : catalogue s ≡ some rows) (seat 
       calls_agree (step (sources_of s) t c).words calls (after_call notes_account seat handle o c (answer_of (step (sources_of s) t c))) (step_agrees t o c a)
 
   -- so what is noted of a cursor is a walk through its selection
-  noted_walks : (calls : List Call) (noted : Notes) → notes_told seat handle (history (sources_of s) fresh_table calls) ≡ some noted → Walk rows noted
+  noted_walks : (calls : List Call) (noted : Notes) → notes_told seat handle (history (sources_of s) fresh_table calls) ≡ Some noted → Walk rows noted
   noted_walks calls noted w =
       go (held_cursor (after (sources_of s) fresh_table calls) seat handle)
       (subst (λ (o : Option Notes). Agree rows o (held_cursor (after (sources_of s) fresh_table calls) seat handle)) w
-      (calls_agree fresh_table calls none (subst (Agree rows none) (sym (fresh_none seat handle h)) tt)))
+      (calls_agree fresh_table calls None (subst (Agree rows None) (sym (fresh_none seat handle h)) tt)))
     where
-      go : (p : Option Cursor) → Agree rows (some noted) p → Walk rows noted
-      go none a = absurd a
-      go (some c) a =
+      go : (p : Option Cursor) → Agree rows (Some noted) p → Walk rows noted
+      go None a = absurd a
+      go (Some c) a =
           record {
             tree = a.tree;
             read = a.read;
@@ -316,7 +316,7 @@ module _ (s : List ℕ) (rows : List Row) (e : catalogue s ≡ some rows) (seat 
 
 -- only an opening begins notes: one of the eight seats, given one of the two handles
 module _ (s : List ℕ) (seat handle : ℕ) where
-  message_none : (m reply : List ℕ) → after_message notes_account handle m reply none ≡ none
+  message_none : (m reply : List ℕ) → after_message notes_account handle m reply None ≡ None
   message_none m reply =
       by_test (eqb (msg_of m) 0xC9)
       (λ q. rw q)
@@ -333,14 +333,14 @@ module _ (s : List ℕ) (seat handle : ℕ) where
       let own = eqb-true k seat (both_left (eqb k seat) (eqb answer.refusal 0) heard) in
       let taken = eqb-true answer.refusal 0 (both_right (eqb k seat) (eqb answer.refusal 0) heard) in
       let z = sym (ap (λ (x : Answer). x.refusal) e) ∙ taken in
-      let handles : (x : ℕ) → x ≡ handle → (x ≡ 1) ⊎ ((x ≡ 2) × (held_cursor t k 1 ≡ none → ⊥)) → Handle handle
-      = λ x g w. ⊎_elim (λ (l : x ≡ 1). inl (sym g ∙ l)) (λ (l : (x ≡ 2) × (held_cursor t k 1 ≡ none → ⊥)). inr (sym g ∙ l.0)) w in (
+      let handles : (x : ℕ) → x ≡ handle → (x ≡ 1) ⊎ ((x ≡ 2) × (held_cursor t k 1 ≡ None → ⊥)) → Handle handle
+      = λ x g w. ⊎_elim (λ (l : x ≡ 1). inl (sym g ∙ l)) (λ (l : (x ≡ 2) × (held_cursor t k 1 ≡ None → ⊥)). inr (sym g ∙ l.0)) w in (
         subst (λ (x : ℕ). x < seats) own (accepted_passes (sources_of s) t (opening k tree) z).seat_in_lem,
         handles (step (sources_of s) t (opening k tree)).handle (sym (ap (λ (x : Answer). x.handle) e) ∙ same) (opens s t k tree z).lowest,
       )
 
   begins_or_not : (t : List ℕ) (c : Call)
-      → (after_call notes_account seat handle none c (answer_of (step (sources_of s) t c)) ≡ none) ⊎ ((seat < seats) × Handle handle)
+      → (after_call notes_account seat handle None c (answer_of (step (sources_of s) t c)) ≡ None) ⊎ ((seat < seats) × Handle handle)
   begins_or_not t (connecting k version) = inl refl
   begins_or_not t (opening k tree) =
       let answer = answer_of (step (sources_of s) t (opening k tree)) in
@@ -349,22 +349,22 @@ module _ (s : List ℕ) (seat handle : ℕ) where
       let answer = answer_of (step (sources_of s) t (messaging k m room)) in
       inl (by_test (accepted seat k answer) (λ q. rw q (message_none m answer.reply)) (λ q. rw q))
 
-  begun : (t : List ℕ) (calls : List Call) (noted : Notes) → told (after_call notes_account seat handle) none (history (sources_of s) t calls) ≡ some noted
+  begun : (t : List ℕ) (calls : List Call) (noted : Notes) → told (after_call notes_account seat handle) None (history (sources_of s) t calls) ≡ Some noted
       → (seat < seats) × Handle handle
   unfolding told history
   begun t [] noted w = absurd (none≢some w)
   begun t (c ∷ calls) noted w =
       let next = (step (sources_of s) t c).words in
       ⊎_elim
-      (λ (still : after_call notes_account seat handle none c (answer_of (step (sources_of s) t c)) ≡ none).
+      (λ (still : after_call notes_account seat handle None c (answer_of (step (sources_of s) t c)) ≡ None).
       begun next calls noted
       (sym (ap (λ (o : Option Notes). told (after_call notes_account seat handle) o (history (sources_of s) next calls)) still) ∙ w))
       (λ (b : (seat < seats) × Handle handle). b)
       (begins_or_not t c)
 
 -- demand 3: from the fresh table, under any calls of all seats, whatever is noted of a cursor is a walk through its selection
-pub walks : (s : List ℕ) (rows : List Row) → catalogue s ≡ some rows → (calls : List Call) (seat handle : ℕ) (noted : Notes)
-    → notes_told seat handle (history (sources_of s) fresh_table calls) ≡ some noted → Walk rows noted
+pub walks : (s : List ℕ) (rows : List Row) → catalogue s ≡ Some rows → (calls : List Call) (seat handle : ℕ) (noted : Notes)
+    → notes_told seat handle (history (sources_of s) fresh_table calls) ≡ Some noted → Walk rows noted
 walks s rows e calls seat handle noted w =
     let b = begun s seat handle fresh_table calls noted w in
     noted_walks s rows e seat handle b.0 b.1 calls noted w

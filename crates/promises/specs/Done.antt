@@ -1,6 +1,6 @@
 -- What the other accepted calls answer and leave (01, "Refusal numbers, in order of test", and "Bindings").
 use Rattle.std.specs.Prelude.{◌≡◌, List, [], ◌++◌, ℕ}
-use Rattle.std.proofs.Math.Option.{Option, none, some}
+use Rattle.std.specs.Prelude.{Option, None, Some}
 use Rattle.wire.specs.Word.{le}
 use Rattle.wire.specs.Laid.{four_words}
 use Rattle.table.specs.Seat.{Seat}
@@ -14,7 +14,7 @@ use Rattle.wire.specs.Header.{disconnect_msg, free_cursor_msg, set_bindings_msg}
 -- 16 bytes: _msg, zero, zero, zero". Any other message than a disconnect leaves the seat connected, with the version that it had. What
 -- becomes of the cursors is told in Client.antt.
 pub record Done (m : List ℕ) (before after : Option Seat) (reply : List ℕ) : Type 0 where
-  pub left : msg_of m ≡ disconnect_msg → (after ≡ none) × (reply ≡ [])
-  pub freed : msg_of m ≡ free_cursor_msg → (s : Seat) × (after ≡ some s) × (reply ≡ four_words free_cursor_msg 0 0 0 ++ le 4 (still_open s))
+  pub left : msg_of m ≡ disconnect_msg → (after ≡ None) × (reply ≡ [])
+  pub freed : msg_of m ≡ free_cursor_msg → (s : Seat) × (after ≡ Some s) × (reply ≡ four_words free_cursor_msg 0 0 0 ++ le 4 (still_open s))
   pub bound : msg_of m ≡ set_bindings_msg → reply ≡ four_words set_bindings_msg 0 0 0
-  pub version : (msg_of m ≡ disconnect_msg → ⊥) → (s : Seat) × (before ≡ some s) × (version_of after ≡ some s.version)
+  pub version : (msg_of m ≡ disconnect_msg → ⊥) → (s : Seat) × (before ≡ Some s) × (version_of after ≡ Some s.version)

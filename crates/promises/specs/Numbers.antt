@@ -1,6 +1,6 @@
 -- 01's "Numbers to check against" as one table of facts: M1 to M12, and the two edges after them.
 use Rattle.std.specs.Prelude.{◌≡◌, Bool, true, false, List, [], ◌∷◌, ℕ, ◌+◌, ◌-◌, replicate}
-use Rattle.std.proofs.Math.Option.{none, some}
+use Rattle.std.specs.Prelude.{None, Some}
 use Rattle.wire.specs.Checksum.{checksum}
 use Rattle.wire.specs.Examples.{message_of}
 use Rattle.catalogue.specs.Groups as Groups
@@ -47,15 +47,15 @@ pub data Fact : Type 0 where
 -- text by method 0 and by method 1; so many of the rows fit in B 512 and one more doesn't; a request for the row is refused by this
 -- number, else 0, and sends so many rows; a request with this base and B 512, and a tree of so many levels, are refused by this number
 abbrev pub Holds : Fact → Type 0
-Holds (is v bytes) = (Groups.number number_most bytes ≡ some (v, [])) × (Groups.written v ≡ bytes)
-Holds (refused bytes) = Groups.number number_most bytes ≡ none
+Holds (is v bytes) = (Groups.number number_most bytes ≡ Some (v, [])) × (Groups.written v ≡ bytes)
+Holds (refused bytes) = Groups.number number_most bytes ≡ None
 Holds (sums msg body sum) = checksum (message_of msg body) ≡ sum
 Holds (occurs_in phrase text method0 method1) = (occurs 0 phrase text ≡ method0) × (occurs 1 phrase text ≡ method1)
 Holds (fit rows most) = Fits 512 32 24 case_columns rows most × (Fits 512 32 24 case_columns rows (most + 1) → ⊥)
 Holds (fetched row refusal count) =
     (first_cause (fetch_causes (row ∷ []) on_first for_one) ≡ refusal) × (sent (row ∷ []) on_first for_one ≡ count)
 Holds (based base refusal) = first_cause ((9, unasked (request (get_rows 512 base))) ∷ []) ≡ refusal
-Holds (nested levels refusal) = first_cause (open_causes (some (fresh 5)) (nots (levels - 1) (related 4 2 300))) ≡ refusal
+Holds (nested levels refusal) = first_cause (open_causes (Some (fresh 5)) (nots (levels - 1) (related 4 2 300))) ≡ refusal
 
 -- M1 to M4: "127 is 7F; 128 is 80 01; 4,294,967,295 is FF FF FF FF 0F; 80 00 is refused"
 -- M5: "empty body, set bindings: 0x59533889"; M6: "words 0xFFFFFFFF, 1: the same"
@@ -75,9 +75,9 @@ facts =
     ∷ occurs_in start starting false true
     ∷ occurs_in start restart false false
     ∷ occurs_in start re_start true true
-    ∷ fit (replicate 30 (labelled none)) 20
-    ∷ fetched (labelled (some (replicate 227 0x41))) 0 1
-    ∷ fetched (labelled (some (replicate 228 0x41))) 15 0
+    ∷ fit (replicate 30 (labelled None)) 20
+    ∷ fetched (labelled (Some (replicate 227 0x41))) 0 1
+    ∷ fetched (labelled (Some (replicate 228 0x41))) 15 0
     ∷ based 0xFFFFFDFF 0
     ∷ based 0xFFFFFE00 9
     ∷ nested 8 0

@@ -2,7 +2,7 @@
 -- exactly the rows its tree describes, in order").
 use Rattle.std.specs.Prelude.{◌≡◌, true, ◌↔◌, ◌⊎◌, ℕ, ◌<◌, length}
 use mathlib.Core.List.{List, Memᴰ}
-use Rattle.std.proofs.Math.Option.{none, some}
+use Rattle.std.specs.Prelude.{None, Some}
 use Rattle.catalogue.specs.Plain.{Row, catalogue, row_in}
 use Rattle.tree.specs.Tree.{Tree}
 use Rattle.tree.specs.TreeHolds.{holds}
@@ -21,12 +21,12 @@ pub record Opens (s t : List ℕ) (seat : ℕ) (bytes : List ℕ) (o : Outcome) 
   pub rows : List Row
   pub tree : Tree
   pub selection : List ℕ
-  pub parsed : catalogue s ≡ some rows
-  pub read : restriction bytes ≡ some tree
+  pub parsed : catalogue s ≡ Some rows
+  pub read : restriction bytes ≡ Some tree
   pub selects : Selects rows tree selection
   -- the lowest free handle
-  pub free : held_cursor t seat o.handle ≡ none
-  pub lowest : (o.handle ≡ 1) ⊎ ((o.handle ≡ 2) × (held_cursor t seat 1 ≡ none → ⊥))
+  pub free : held_cursor t seat o.handle ≡ None
+  pub lowest : (o.handle ≡ 1) ⊎ ((o.handle ≡ 2) × (held_cursor t seat 1 ≡ None → ⊥))
   -- the seat stays connected with its version, and has a cursor on that selection, at position 0 and without bindings
-  pub version : (k : Seat) × (seat_held t seat ≡ some k) × (version_of (seat_held o.words seat) ≡ some k.version)
-  pub cursor : held_cursor o.words seat o.handle ≡ some (opened selection)
+  pub version : (k : Seat) × (seat_held t seat ≡ Some k) × (version_of (seat_held o.words seat) ≡ Some k.version)
+  pub cursor : held_cursor o.words seat o.handle ≡ Some (opened selection)

@@ -1,6 +1,6 @@
 -- What a client that knows its cursor and its request reads of a rows reply (01, "Rows").
 use Rattle.std.specs.Prelude.{◌≡◌, List, ◌↔◌, ◌⊎◌, ℕ, ◌+◌, ◌≤◌, ◌<◌, length, get_or, take, drop}
-use Rattle.std.proofs.Math.Option.{some}
+use Rattle.std.specs.Prelude.{Some}
 use Rattle.wire.specs.Word.{number_at}
 use Rattle.catalogue.specs.Plain.{Row, row_in}
 use Rattle.bindings.specs.Sound.{column, Sound}
@@ -67,7 +67,7 @@ pub record RowsReply (rows : List Row) (c : Cursor) (q : Request) (reply : List 
 pub record Sends (rows : List Row) (t : List ℕ) (seat : ℕ) (m reply : List ℕ) : Type 0 where
   pub cursor : Cursor
   pub asked : Request
-  pub held : held_cursor t seat (handle_of m) ≡ some cursor
-  pub body : request m ≡ some asked
+  pub held : held_cursor t seat (handle_of m) ≡ Some cursor
+  pub body : request m ≡ Some asked
   pub bound : Sound cursor.width cursor.columns
   pub says : RowsReply rows cursor asked reply

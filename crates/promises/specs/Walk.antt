@@ -2,7 +2,7 @@
 -- (demand 3: "the rows a cursor has carried are always the first rows of its selection, each once; end of rowset is said exactly when
 -- all are carried").
 use Rattle.std.specs.Prelude.{◌≡◌, List, [], ◌∷◌, ◌++◌, ◌↔◌, ℕ, ◌<◌, length, get_or, take}
-use Rattle.std.proofs.Math.Option.{Option, none, some}
+use Rattle.std.specs.Prelude.{Option, None, Some}
 use Rattle.catalogue.specs.Plain.{Row, row_in}
 use Rattle.bindings.specs.declared.Column.{Column}
 use Rattle.bindings.specs.Sound.{column, Sound}
@@ -45,7 +45,7 @@ notes_account =
     }
 
 abbrev pub notes_told : ℕ → ℕ → List Event → Option Notes
-notes_told seat handle events = told (after_call notes_account seat handle) none events
+notes_told seat handle events = told (after_call notes_account seat handle) None events
 
 -- the cursor that has carried so many rows of a selection
 abbrev pub cursor_at : ℕ → List ℕ → Page → Cursor
@@ -54,7 +54,7 @@ cursor_at position selection p = record { position = position; selection = selec
 -- a page shows a part of a selection, after the rows that were carried before it
 pub record Shows (rows : List Row) (selection before part : List ℕ) (p : Page) : Type 0 where
   pub asked : Request
-  pub body : request p.message ≡ some asked
+  pub body : request p.message ≡ Some asked
   pub bound : Sound p.width p.columns
   -- its rows, by its own bytes: as many as the word at 16 says, and each bound field that of the row with the part's number, its text at
   -- the place that its own offset names
@@ -84,7 +84,7 @@ joined (part ∷ parts) = part ++ joined parts
 -- the walk of a cursor: the rows that its tree holds for, rising, and of these the first, a part to each page, each once
 pub record Walk (rows : List Row) (n : Notes) : Type 0 where
   pub tree : Tree
-  pub read : restriction n.tree ≡ some tree
+  pub read : restriction n.tree ≡ Some tree
   pub selection : List ℕ
   pub selects : Selects rows tree selection
   pub parts : List (List ℕ)

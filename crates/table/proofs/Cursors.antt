@@ -4,7 +4,7 @@ use mathlib.Core.Path.{◌≡◌, refl, sym, ap, ap₂, ◌∙◌}
 use mathlib.Core.Bool.{true}
 use mathlib.Core.List.{List, [], ◌∷◌, ◌++◌}
 use mathlib.Core.Logic.{◌⊎◌, inl, inr}
-use mathlib.Core.Option.{some}
+use Rattle.std.specs.Prelude.{Some}
 use Prim.Native.Nat.{ℕ, zero, suc, ◌+◌, ◌-◌, ◌*◌, ◌≤◌, ◌<◌}
 use native.Mathlib.Nat.{add-suc}
 use native.Mathlib.Numerals.{add-one}
@@ -166,7 +166,7 @@ bindings_back b l e =
     (λ q. bound_by_lem b l (rw q at e))
 
 open_back : (b : List ℕ) → length b ≡ cursor_size → get_or b open_at 0 ≡ 1 → open_well b ≡ true
-    → (b ≡ cursor_words (some (cursor_held b))) × CursorFits (cursor_held b)
+    → (b ≡ cursor_words (Some (cursor_held b))) × CursorFits (cursor_held b)
 open_back b l o e =
     let count = get_or b count_at 0 in
     let position : leb (get_or b position_at 0) count ≡ true = both_left _ _ e in

@@ -2,7 +2,7 @@
 use mathlib.Core.Path.{◌≡◌, refl, sym, ap, ap₂, ◌∙◌}
 use mathlib.Core.Bool.{Bool, true, false, not}
 use mathlib.Core.List.{List}
-use mathlib.Core.Option.{Option, none, some}
+use Rattle.std.specs.Prelude.{Option, None, Some}
 use Prim.Native.Nat.{ℕ, ◌+◌, ◌-◌, ◌≤◌}
 use native.Mathlib.Nat.{add-zero}
 use native.Mathlib.Omega.{arith}
@@ -41,8 +41,8 @@ one_if true = 1
 one_if false = 0
 
 count_is : (o : Option Cursor) → open_count o ≡ one_if (is_open o)
-count_is none = refl
-count_is (some c) = refl
+count_is None = refl
+count_is (Some c) = refl
 
 pub count_two : (s : Seat) (a b : Bool) → a ≡ is_open s.first → b ≡ is_open s.second → still_open s ≡ one_if a + one_if b
 count_two s a b p q = ap₂ (λ (x y : ℕ). x + y) (count_is s.first ∙ ap one_if (sym p)) (count_is s.second ∙ ap one_if (sym q))

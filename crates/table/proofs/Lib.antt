@@ -6,3 +6,4 @@ pub mod Tables
 pub mod Bounds
 pub mod Writes
 pub mod Handles
+pub mod Chunks

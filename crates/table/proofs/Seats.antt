@@ -2,7 +2,7 @@
 use mathlib.Core.Path.{◌≡◌, refl, sym, ap, ap₂, ◌∙◌}
 use mathlib.Core.Bool.{true}
 use mathlib.Core.List.{List, ◌∷◌, ◌++◌}
-use mathlib.Core.Option.{Option, none, some}
+use Rattle.std.specs.Prelude.{Option, None, Some}
 use Prim.Native.Nat.{ℕ}
 use native.Mathlib.Omega.{arith}
 use borrow.Author.Tests.{eqb-true}
@@ -27,8 +27,8 @@ pub record Shows (o : Option Cursor) : Type 0 where
 
 pub cursor_words_lem : (o : Option Cursor) → CursorOk o → Shows o
 unfolding cursor_well
-cursor_words_lem none f = record { size = length-replicate {A = ℕ} cursor_size 0; well = zeros_are cursor_size; held = refl }
-cursor_words_lem (some c) f = record { size = cursor_length c f; well = cursor_shown c f; held = cursor_held_lem c f }
+cursor_words_lem None f = record { size = length-replicate {A = ℕ} cursor_size 0; well = zeros_are cursor_size; held = refl }
+cursor_words_lem (Some c) f = record { size = cursor_length c f; well = cursor_shown c f; held = cursor_held_lem c f }
 
 -- the words of a connected seat, taken apart
 apart : (b : List ℕ) → length b ≡ seat_size → b ≡ get_or b 0 0 ∷ get_or b 1 0 ∷ (part b first_at cursor_size ++ part b second_at cursor_size)
@@ -75,8 +75,8 @@ pub record Seated (o : Option Seat) : Type 0 where
 
 pub seat_words_lem : (o : Option Seat) → SeatOk o → Seated o
 unfolding seat_well
-seat_words_lem none f = record { size = length-replicate {A = ℕ} seat_size 0; well = zeros_are seat_size; held = refl }
-seat_words_lem (some s) f =
+seat_words_lem None f = record { size = length-replicate {A = ℕ} seat_size 0; well = zeros_are seat_size; held = refl }
+seat_words_lem (Some s) f =
     let x = cursor_words_lem s.first f.0 in
     let y = cursor_words_lem s.second f.1 in
     let first : take cursor_size (cursor_words s.first ++ cursor_words s.second) ≡ cursor_words s.first
@@ -88,7 +88,7 @@ seat_words_lem (some s) f =
       size = omega (arith, length-append (cursor_words s.first) (cursor_words s.second), x.size, y.size);
       well = ap₂ (λ (a b : List ℕ). both (cursor_well a) (cursor_well b)) first second ∙ both_true _ _ x.well y.well;
       held =
-          ap₂ (λ (a b : Option Cursor). some (record { version = s.version; first = a; second = b }))
+          ap₂ (λ (a b : Option Cursor). Some (record { version = s.version; first = a; second = b }))
           (ap cursor_of first ∙ x.held)
           (ap cursor_of second ∙ y.held);
     }

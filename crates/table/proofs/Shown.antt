@@ -3,7 +3,7 @@ use mathlib.Core.Path.{◌≡◌, refl, ap, ap₂, ◌∙◌}
 use mathlib.Core.Bool.{true}
 use mathlib.Core.List.{List, [], ◌∷◌, ◌++◌}
 use mathlib.Core.Logic.{⊎_elim}
-use mathlib.Core.Option.{some}
+use Rattle.std.specs.Prelude.{Some}
 use Prim.Native.Nat.{ℕ, ◌+◌, ◌-◌, ◌*◌, ◌≤◌}
 use native.Mathlib.Omega.{arith}
 use borrow.Author.Tests.{ne_eqb, le-leb}
@@ -70,22 +70,22 @@ bound_well_lem position count width s rest f t =
     most = (fit_sound width s f).count.1
 
 module _ (c : Cursor) (f : CursorFits c) where
-  rows_part : drop rows_at (cursor_words (some c)) ≡ c.selection ++ zeros (rows_size - length c.selection)
+  rows_part : drop rows_at (cursor_words (Some c)) ≡ c.selection ++ zeros (rows_size - length c.selection)
   rows_part = drop_at (words_of c.columns) (c.selection ++ zeros (rows_size - length c.selection)) 45 (words_length c.columns)
 
-  records_part : part (cursor_words (some c)) records_at records_size ≡ words_of c.columns
+  records_part : part (cursor_words (Some c)) records_at records_size ≡ words_of c.columns
   records_part = take_at (words_of c.columns) (c.selection ++ zeros (rows_size - length c.selection)) 45 (words_length c.columns)
 
-  selection_part : take (length c.selection) (drop rows_at (cursor_words (some c))) ≡ c.selection
+  selection_part : take (length c.selection) (drop rows_at (cursor_words (Some c))) ≡ c.selection
   selection_part = ap (take (length c.selection)) rows_part ∙ take_at c.selection _ (length c.selection) refl
 
-  pub cursor_held_lem : cursor_of (cursor_words (some c)) ≡ some c
+  pub cursor_held_lem : cursor_of (cursor_words (Some c)) ≡ Some c
   cursor_held_lem =
-      ap₂ (λ (s : List ℕ) (k : List Column). some (record { position = c.position; selection = s; width = c.width; columns = k }))
+      ap₂ (λ (s : List ℕ) (k : List Column). Some (record { position = c.position; selection = s; width = c.width; columns = k }))
       selection_part
       (ap (columns_of (length c.columns)) records_part ∙ words_columns c.columns (few c f))
 
-  pub cursor_length : length (cursor_words (some c)) ≡ cursor_size
+  pub cursor_length : length (cursor_words (Some c)) ≡ cursor_size
   cursor_length =
       omega (
         arith,
@@ -96,7 +96,7 @@ module _ (c : Cursor) (f : CursorFits c) where
         f.rows,
       )
 
-  bindings_shown : bindings_well (cursor_words (some c)) ≡ true
+  bindings_shown : bindings_well (cursor_words (Some c)) ≡ true
   bindings_shown =
       ⊎_elim
       (λ (w : (c.columns ≡ []) × (c.width ≡ 0)).
@@ -111,13 +111,13 @@ module _ (c : Cursor) (f : CursorFits c) where
       rest : List ℕ
       rest = c.selection ++ zeros (rows_size - length c.selection)
 
-  pub cursor_shown : cursor_well (cursor_words (some c)) ≡ true
+  pub cursor_shown : cursor_well (cursor_words (Some c)) ≡ true
   unfolding cursor_well
   cursor_shown =
       both_true (leb c.position (length c.selection)) _ (le-leb c.position (length c.selection) f.position)
       (both_true (leb (length c.selection) rows_size) _ (le-leb (length c.selection) rows_size f.rows)
-      (both_true (bindings_well (cursor_words (some c))) _ bindings_shown
-      (both_true (rising (take (length c.selection) (drop rows_at (cursor_words (some c))))) _
+      (both_true (bindings_well (cursor_words (Some c))) _ bindings_shown
+      (both_true (rising (take (length c.selection) (drop rows_at (cursor_words (Some c))))) _
       (ap rising selection_part ∙ rising_shown c.selection f.rising)
       (ap all_zero
       (ap (drop (length c.selection)) rows_part ∙ drop_at c.selection (zeros (rows_size - length c.selection)) (length c.selection) refl)

@@ -1,6 +1,6 @@
 -- What a cursor and a seat must be for their words to pass refusal 2, in plain terms.
 use Rattle.std.specs.Prelude.{◌≡◌, true, [], ◌⊎◌, ◌≤◌, length}
-use Rattle.std.proofs.Math.Option.{Option, none, some}
+use Rattle.std.specs.Prelude.{Option, None, Some}
 use Rattle.lists.specs.Every.{every}
 use Rattle.bindings.specs.Fit.{fit}
 use Rattle.table.specs.Layout.{rows_size}
@@ -19,10 +19,10 @@ pub record CursorFits (c : Cursor) : Type 0 where
 
 -- a cursor, if there is one
 abbrev pub CursorOk : Option Cursor → Type 0
-CursorOk none = Unit {0}
-CursorOk (some c) = CursorFits c
+CursorOk None = Unit {0}
+CursorOk (Some c) = CursorFits c
 
 -- a seat, if it is connected, by its two cursors
 abbrev pub SeatOk : Option Seat → Type 0
-SeatOk none = Unit {0}
-SeatOk (some s) = CursorOk s.first × CursorOk s.second
+SeatOk None = Unit {0}
+SeatOk (Some s) = CursorOk s.first × CursorOk s.second

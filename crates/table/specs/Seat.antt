@@ -1,7 +1,7 @@
 -- What a seat and a cursor are, and the words that hold them (01: "Sessions live in a lent table of 32-bit words, row numbers
 -- of each selection included").
 use Rattle.std.specs.Prelude.{List, [], ◌∷◌, ◌++◌, ℕ, ◌-◌, eqb, length, get_or, take, drop}
-use Rattle.std.proofs.Math.Option.{Option, none, some}
+use Rattle.std.specs.Prelude.{Option, None, Some}
 use Rattle.lists.specs.Below.{pick}
 use Rattle.bindings.specs.Column.{columns_of, words_of}
 use Rattle.bindings.specs.declared.Column.{Column}
@@ -23,15 +23,15 @@ pub record Seat : Type 0 where
 
 -- the words of a cursor; "a word not in use (closed cursor, .. past a list's end)" is zero
 abbrev pub cursor_words : Option Cursor → List ℕ
-cursor_words none = zeros cursor_size
-cursor_words (some c) =
+cursor_words None = zeros cursor_size
+cursor_words (Some c) =
     1 ∷ c.position ∷ length c.selection ∷ length c.columns ∷ c.width
     ∷ (words_of c.columns ++ (c.selection ++ zeros (rows_size - length c.selection)))
 
 -- the words of a seat; those of an unconnected one are zero
 abbrev pub seat_words : Option Seat → List ℕ
-seat_words none = zeros seat_size
-seat_words (some s) = 1 ∷ s.version ∷ (cursor_words s.first ++ cursor_words s.second)
+seat_words None = zeros seat_size
+seat_words (Some s) = 1 ∷ s.version ∷ (cursor_words s.first ++ cursor_words s.second)
 
 -- the cursor and the seat that words hold
 abbrev pub cursor_held : List ℕ → Cursor
@@ -44,7 +44,7 @@ cursor_held b =
     }
 
 abbrev pub cursor_of : List ℕ → Option Cursor
-cursor_of b = pick (eqb (get_or b open_at 0) 0) none (some (cursor_held b))
+cursor_of b = pick (eqb (get_or b open_at 0) 0) None (Some (cursor_held b))
 
 abbrev pub seat_in : List ℕ → Seat
 seat_in b =
@@ -55,11 +55,11 @@ seat_in b =
     }
 
 abbrev pub seat_of : List ℕ → Option Seat
-seat_of b = pick (eqb (get_or b connected_at 0) 0) none (some (seat_in b))
+seat_of b = pick (eqb (get_or b connected_at 0) 0) None (Some (seat_in b))
 
 -- a seat as connecting leaves it, and a cursor as opening leaves it: "with position 0 and no bindings"
 abbrev pub fresh : ℕ → Seat
-fresh version = record { version = version; first = none; second = none }
+fresh version = record { version = version; first = None; second = None }
 
 abbrev pub opened : List ℕ → Cursor
 opened selection = record { position = 0; selection = selection; width = 0; columns = [] }
@@ -74,7 +74,7 @@ moved c position = record { position = position; selection = c.selection; width 
 
 -- the cursor of a handle: 1 or 2
 abbrev pub cursor_in : Seat → ℕ → Option Cursor
-cursor_in s handle = pick (eqb handle 1) s.first (pick (eqb handle 2) s.second none)
+cursor_in s handle = pick (eqb handle 1) s.first (pick (eqb handle 2) s.second None)
 
 -- a seat with another cursor under a handle: 1, else 2 (a handle is judged before)
 abbrev pub with_cursor : Seat → ℕ → Option Cursor → Seat

@@ -1,6 +1,6 @@
 -- The judgement of a whole table (01, the paragraph under the refusal table), refusal 2 and the second half of refusal 3.
 use Rattle.std.specs.Prelude.{Bool, true, List, ℕ, ◌+◌, ◌-◌, ◌*◌, leb, ltb, eqb, length, get_or, take, drop}
-use Rattle.std.proofs.Math.Option.{Option, none, some}
+use Rattle.std.specs.Prelude.{Option, None, Some}
 use Rattle.lists.specs.Below.{pick, both, every_below}
 use Rattle.bindings.specs.Column.{column_words, columns_of}
 use Rattle.lists.specs.Every.{every}
@@ -67,12 +67,12 @@ table_well t = both (eqb (length t) table_size) (every_below seats (λ seat. sea
 
 -- refusal 3: "an open cursor's row number not below its row count", of every open cursor of every seat
 abbrev pub cursor_below : ℕ → Option Cursor → Bool
-cursor_below rows none = true
-cursor_below rows (some c) = every (λ row. ltb row rows) c.selection
+cursor_below rows None = true
+cursor_below rows (Some c) = every (λ row. ltb row rows) c.selection
 
 abbrev pub seat_below : ℕ → Option Seat → Bool
-seat_below rows none = true
-seat_below rows (some s) = both (cursor_below rows s.first) (cursor_below rows s.second)
+seat_below rows None = true
+seat_below rows (Some s) = both (cursor_below rows s.first) (cursor_below rows s.second)
 
 unfoldable pub table_below : ℕ → List ℕ → Bool
 table_below rows t = every_below seats (λ seat. seat_below rows (seat_of (seat_part t seat)))

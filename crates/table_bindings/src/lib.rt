@@ -1,105 +1,68 @@
 // The session table: the judgement of the words of a cursor's bindings, and of words not in use.
 #![tactic(auto)]
 
-ghost use Rattle.std.specs.Prelude.{◌≡◌, ◌^◌, ◌≤◌, ◌<◌, length};
-ghost use Rattle.bindings.specs.Column.{column_at, columns_of, columns_most};
+ghost use Rattle.std.specs.Prelude.{◌≡◌, ◌≤◌};
+ghost use Rattle.bindings.specs.Column.{columns_of, columns_most};
 ghost use Rattle.lists.specs.Every.{every};
-ghost use Rattle.table.specs.Layout.{cursor_size, records_size};
 ghost use Rattle.table.specs.Well.{all_zero, flagged, tidy, bound_well, bindings_well};
+
+use bindings::Column;
 
 // Every word is zero. There is no early return, so that many words are looked at in one step.
 pub fn all_zero(words: &[u32]) -> bool
     ensures { result ≡ all_zero words.now }
 {
-    let mut joined: u32 = 0;
-    let mut i = 0;
-    while i < words.len() {
-        joined = joined | words[i];
-        i += 1;
+    let mut joined = 0;
+    for word in words {
+        joined |= *word;
     }
     joined == 0
-}
-
-fn wide(word: u32) -> u64
-    ensures { (result ≡ word) × (result < 2 ^ 32) }
-{
-    word as u64
 }
 
 // A flag of a column, and what an unset one leaves zero.
 fn flagged(used: u32, rest: u64) -> bool
     ensures { result ≡ flagged used rest }
 {
-    if used == 0 {
-        return rest == 0;
-    }
-    used == 1
+    if used == 0 { rest == 0 } else { used == 1 }
 }
 
-// The flags of the k-th column.
-fn tidy(records: &[u32], index: usize) -> bool
-    requires { (length records.now ≡ records_size) × (index < columns_most) }
-    ensures { result ≡ tidy (column_at records.now index) }
+// The flags of a column.
+fn tidy(column: Column) -> bool
+    ensures { result ≡ tidy column }
 {
-    let at = bindings::COLUMN_WORDS * index;
-    let value = wide(records[at + bindings::VALUE_OFFSET])
-        + wide(records[at + bindings::VALUE_SIZE]);
-    if !flagged(records[at + bindings::VALUE_USED], value) {
-        return false;
-    }
-    let status = wide(records[at + bindings::STATUS_OFFSET]);
-    if !flagged(records[at + bindings::STATUS_USED], status) {
-        return false;
-    }
-    let length = wide(records[at + bindings::LENGTH_OFFSET]);
-    flagged(records[at + bindings::LENGTH_USED], length)
+    let value = u64::from(column.value.offset) + u64::from(column.value.size);
+    flagged(column.value.used, value)
+        && flagged(column.status.used, u64::from(column.status.offset))
+        && flagged(column.length.used, u64::from(column.length.offset))
 }
 
 // The flags of each column.
-fn all_tidy(records: &[u32], count: usize) -> bool
-    requires { (length records.now ≡ records_size) × (count ≤ columns_most) }
+fn all_tidy(records: &[u32; bindings::ROOM_WORDS], count: usize) -> bool
+    requires { count ≤ columns_most }
     ensures { result ≡ every tidy (columns_of count records.now) }
 {
-    let mut k = 0;
-    let mut left = count;
-    while 0 < left {
-        if !tidy(records, k) {
-            return false;
-        }
-        k += 1;
-        left -= 1;
-    }
-    true
+    bindings_record::every_column(records, 0, count, tidy)
 }
 
 // The bindings of a cursor that has some.
-fn bound_well(records: &[u32], count: u32, width: u32) -> bool
-    requires { length records.now ≡ records_size }
+fn bound_well(records: &[u32; bindings::ROOM_WORDS], count: u32, width: u32) -> bool
     ensures { result ≡ bound_well count width records.now }
 {
     if !bindings_fit::fit(records, count, width) {
         return false;
     }
     let n = count as usize;
-    if !all_tidy(records, n) {
-        return false;
-    }
-    let unused = bindings::COLUMN_WORDS * n;
-    all_zero(&records[unused..])
+    all_tidy(records, n) && all_zero(&records[bindings::COLUMN_WORDS * n..])
 }
 
 // The bindings of a cursor.
-pub fn bindings_well(cursor: &[u32]) -> bool
-    requires { length cursor.now ≡ cursor_size }
+pub fn bindings_well(cursor: &[u32; table::CURSOR_SIZE]) -> bool
     ensures { result ≡ bindings_well cursor.now }
 {
     let count = cursor[table::COLUMNS];
     if count == 0 {
-        return all_zero(&cursor[table::WIDTH..table::ROWS]);
+        all_zero(&cursor[table::WIDTH..table::ROWS])
+    } else {
+        bound_well(table_handle::records(cursor), count, cursor[table::WIDTH])
     }
-    bound_well(
-        &cursor[table::RECORDS..table::ROWS],
-        count,
-        cursor[table::WIDTH],
-    )
 }

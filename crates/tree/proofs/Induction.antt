@@ -2,7 +2,7 @@
 use mathlib.Core.Path.{◌≡◌, refl, subst}
 use mathlib.Core.Bool.{true}
 use mathlib.Core.List.{List}
-use mathlib.Core.Option.{none, some}
+use Rattle.std.specs.Prelude.{Option, None, Some}
 use Prim.Native.Nat.{ℕ, zero, suc, ◌+◌, ◌≤◌}
 use borrow.Author.Tests.{leb-true, eqb-true}
 use lib.Dec.{leb, eqb}
@@ -15,8 +15,6 @@ use Rattle.wire.specs.Padding.{padding, zero_at}
 use Rattle.tree.specs.Parts.{node_kind, leaf_at, with_leaf, leaf_of}
 use Rattle.tree.specs.Kinds.{and_kind, or_kind, not_kind, head_size, is_branch, list_head}
 use Rattle.tree.specs.declared.Parts.{Parts}
-use Rattle.tree.specs.declared.LeafAt.{LeafAt}
-use Rattle.tree.specs.declared.LeafAt.TheVariants.{LeafTo, NoLeaf}
 use Rattle.tree.proofs.LeafLaws.{pick_inv}
 use Rattle.tree.specs.Tree.{Tree, Forest, leaf, and, or, not, end, further}
 use Rattle.tree.specs.Reader.{TreeRead, ForestRead, Read, read_list, joined, branch_read, negated, not_read, leaf_read, read_node, read_tree}
@@ -42,21 +40,21 @@ pub record Passes (Q : Said) : Type 0 where
   pub of_or : OfBranch Q or_kind or
   pub of_not : (l n p : ℕ) (s : List ℕ) (t : TreeRead) → head_size ≤ length s → node_kind s ≡ not_kind → Q.of_tree l n (p + head_size) (drop head_size s) t
       → Q.of_tree (suc l) (suc n) p s (record { tree = not t.tree; used = head_size + t.used; nodes = t.nodes })
-  pub of_leaf : (l n p : ℕ) (s : List ℕ) (parts : Parts) (used : ℕ) → leaf_at (node_kind s) s p ≡ LeafTo parts used
+  pub of_leaf : (l n p : ℕ) (s : List ℕ) (parts : Parts) (used : ℕ) → leaf_at (node_kind s) s p ≡ Some (parts, used)
       → Q.of_tree (suc l) (suc n) p s (record { tree = leaf p (leaf_of s parts); used = used; nodes = n })
 
 module _ (Q : Said) (passes : Passes Q) where
   Good : ℕ → Read → Type 0
-  Good l read = (nodes place : ℕ) (s : List ℕ) (r : TreeRead) → read nodes place s ≡ some r → Q.of_tree l nodes place s r
+  Good l read = (nodes place : ℕ) (s : List ℕ) (r : TreeRead) → read nodes place s ≡ Some r → Q.of_tree l nodes place s r
 
   module _ (l : ℕ) (read : Read) (good : Good l read) where
-    list_good : (k nodes place : ℕ) (s : List ℕ) (r : ForestRead) → read_list read k nodes place s ≡ some r → Q.of_forest l k nodes place s r
+    list_good : (k nodes place : ℕ) (s : List ℕ) (r : ForestRead) → read_list read k nodes place s ≡ Some r → Q.of_forest l k nodes place s r
     unfolding read_list Good
     list_good zero nodes place s r e =
         subst (Q.of_forest l 0 nodes place s) (some_is {a = record { forest = end; used = 0; nodes = nodes }} e) (passes.none_left l nodes place s)
     list_good (suc k) nodes place s r e =
         let start = padding 4 place in
-        let i = pick_inv (both (leb start (length s)) (zero_at s 0 start)) _ none (some r) none≢some e in
+        let i = pick_inv (both (leb start (length s)) (zero_at s 0 start)) _ None (Some r) none≢some e in
         let j = then_inv (read nodes (place + start) (drop start s)) _ r i.1 in
         let t = j.0 in
         let next = start + t.used in
@@ -71,7 +69,7 @@ module _ (Q : Said) (passes : Passes Q) where
         (list_good k t.nodes (place + next) (drop next s) f m.1))
 
     module _ (nodes place : ℕ) (s : List ℕ) (r : TreeRead) where
-      not_good : head_size ≤ length s → node_kind s ≡ not_kind → not_read read nodes place s ≡ some r → Q.of_tree (suc l) (suc nodes) place s r
+      not_good : head_size ≤ length s → node_kind s ≡ not_kind → not_read read nodes place s ≡ Some r → Q.of_tree (suc l) (suc nodes) place s r
       unfolding Good
       not_good h k e =
           let j = then_inv (read nodes (place + head_size) (drop head_size s)) negated r e in
@@ -82,7 +80,7 @@ module _ (Q : Said) (passes : Passes Q) where
 
       joined_good : (g : Forest) (used left : ℕ) → list_head ≤ length s → is_branch (node_kind s) ≡ true
           → Q.of_forest l (number_at 4 s head_size) nodes (place + list_head) (drop list_head s) (record { forest = g; used = used; nodes = left })
-          → joined (node_kind s) (record { forest = g; used = used; nodes = left }) ≡ some r → Q.of_tree (suc l) (suc nodes) place s r
+          → joined (node_kind s) (record { forest = g; used = used; nodes = left }) ≡ Some r → Q.of_tree (suc l) (suc nodes) place s r
       joined_good end used left h b o e = absurd (none≢some e)
       joined_good (further t g) used left h b o e =
           subst (Q.of_tree (suc l) (suc nodes) place s)
@@ -91,36 +89,36 @@ module _ (Q : Said) (passes : Passes Q) where
           (λ q. rw q (passes.of_and l nodes place s t g used left h (eqb-true (node_kind s) 1 q) o))
           (λ q. rw q (passes.of_or l nodes place s t g used left h (eqb-true (node_kind s) 2 (rw q at b)) o)))
 
-      branch_good : is_branch (node_kind s) ≡ true → branch_read read (node_kind s) nodes place s ≡ some r → Q.of_tree (suc l) (suc nodes) place s r
+      branch_good : is_branch (node_kind s) ≡ true → branch_read read (node_kind s) nodes place s ≡ Some r → Q.of_tree (suc l) (suc nodes) place s r
       branch_good b e =
-          let i = pick_inv (leb list_head (length s)) _ none (some r) none≢some e in
+          let i = pick_inv (leb list_head (length s)) _ None (Some r) none≢some e in
           let j = then_inv (read_list read (number_at 4 s head_size) nodes (place + list_head) (drop list_head s)) (joined (node_kind s)) r i.1 in
           let f = j.0 in
           joined_good f.forest f.used f.nodes (leb-true list_head (length s) i.0) b
           (list_good (number_at 4 s head_size) nodes (place + list_head) (drop list_head s) f j.1) j.2
 
-      leaf_good : leaf_read (node_kind s) nodes place s ≡ some r → Q.of_tree (suc l) (suc nodes) place s r
+      leaf_good : leaf_read (node_kind s) nodes place s ≡ Some r → Q.of_tree (suc l) (suc nodes) place s r
       leaf_good e = go (leaf_at (node_kind s) s place) refl e
         where
-          go : (x : LeafAt) → leaf_at (node_kind s) s place ≡ x
-              → with_leaf x none (λ parts used. some (record { tree = leaf place (leaf_of s parts); used = used; nodes = nodes })) ≡ some r
+          go : (x : Option (Parts × ℕ)) → leaf_at (node_kind s) s place ≡ x
+              → with_leaf x None (λ parts used. Some (record { tree = leaf place (leaf_of s parts); used = used; nodes = nodes })) ≡ Some r
               → Q.of_tree (suc l) (suc nodes) place s r
-          go NoLeaf q e = absurd (none≢some e)
-          go (LeafTo parts used) q e =
+          go None q e = absurd (none≢some e)
+          go (Some (parts, used)) q e =
               subst (Q.of_tree (suc l) (suc nodes) place s)
               (some_is {a = record { tree = leaf place (leaf_of s parts); used = used; nodes = nodes }} e)
               (passes.of_leaf l nodes place s parts used q)
 
-      node_good : read_node read nodes place s ≡ some r → Q.of_tree (suc l) (suc nodes) place s r
+      node_good : read_node read nodes place s ≡ Some r → Q.of_tree (suc l) (suc nodes) place s r
       node_good e =
-          let i = pick_inv (leb head_size (length s)) _ none (some r) none≢some e in
+          let i = pick_inv (leb head_size (length s)) _ None (Some r) none≢some e in
           by_test (is_branch (node_kind s))
           (λ q. branch_good q (rw q at i.1))
           (λ q. by_test (eqb (node_kind s) 3)
           (λ p. not_good (leb-true head_size (length s) i.0) (eqb-true (node_kind s) 3 p) (rw (q, p) at i.1))
           (λ p. leaf_good (rw (q, p) at i.1)))
 
-  pub of_every_tree : (l nodes place : ℕ) (s : List ℕ) (r : TreeRead) → read_tree l nodes place s ≡ some r → Q.of_tree l nodes place s r
+  pub of_every_tree : (l nodes place : ℕ) (s : List ℕ) (r : TreeRead) → read_tree l nodes place s ≡ Some r → Q.of_tree l nodes place s r
   unfolding read_tree Good
   of_every_tree zero nodes place s r e = absurd (none≢some e)
   of_every_tree (suc l) zero place s r e = absurd (none≢some e)

@@ -17,16 +17,15 @@ use Rattle.wire.specs.PropertySpec.{property_at}
 use Rattle.wire.proofs.Words.{word_at}
 use Rattle.tree.specs.Leaf.{Leaf, content, relation}
 use Rattle.tree.specs.Limits.{phrase_most}
-use Rattle.tree.specs.Parts.{node_kind, phrase_at, with_phrase, content_from, content_at, relation_at, leaf_at, leaf_of}
+use Rattle.tree.specs.Parts.{node_kind, phrase_at, content_from, content_at, relation_at, leaf_at, leaf_of}
 use Rattle.tree.specs.LeafPlaces.{count_at, units_end, locale_at}
 use Rattle.tree.specs.declared.Relation.{Relation}
 use Rattle.tree.specs.declared.Parts.{Parts}
 use Rattle.tree.specs.declared.Parts.TheVariants.{OfRelation}
-use Rattle.tree.specs.declared.PhraseAt.{PhraseAt}
-use Rattle.tree.specs.declared.PhraseAt.TheVariants.{PhraseTo, NoPhrase}
-use Rattle.tree.specs.declared.LeafAt.TheVariants.{LeafTo, NoLeaf}
+use Rattle.std.specs.Prelude.{None, Some}
+use Rattle.lists.proofs.Options.{none≢some, pair_is, then_inv}
 use Rattle.tree.specs.Writer.{leaf_form, LeafFits}
-use Rattle.tree.proofs.LeafLaws.{pick_inv, no_phrase, no_leaf}
+use Rattle.tree.proofs.LeafLaws.{pick_inv}
 use Rattle.tree.proofs.LeafWords.{property_is, phrase_words, content_words}
 use Rattle.tree.proofs.FormLaws.{Stands, any_stand, zeros_stand, number_stands, forms_join, forms_end, forms_started}
 use Rattle.tree.proofs.FieldForms.{spec_stands, units_stand}
@@ -48,7 +47,7 @@ relation_stands s place bytes room kind number type zero =
     (forms_join _ _ place s 38 40 44 (rw zero at (number_stands 2 s 38 40 bytes refl (omega (arith, room))))
     (forms_join _ _ place s 40 44 44 (number_stands 4 s 40 44 bytes refl room) (forms_end _ s 44 room))))))))
 
-relation_back : (s : List ℕ) (place : ℕ) (p : Parts) (used : ℕ) → Bytes s → node_kind s ≡ 5 → relation_at s ≡ LeafTo p used → LeafBack s place (leaf_of s p) used
+relation_back : (s : List ℕ) (place : ℕ) (p : Parts) (used : ℕ) → Bytes s → node_kind s ≡ 5 → relation_at s ≡ Some (p, used) → LeafBack s place (leaf_of s p) used
 unfolding relation_at
 relation_back s place p used bytes k e =
     let x : Relation = record { relop = number_at 4 s 8; property = property_at s 12; value = number_at 4 s 40 } in
@@ -56,9 +55,9 @@ relation_back s place p used bytes k e =
     let served = both how (is_number (property_at s 12)) in
     let type = eqb (number_at 2 s 36) 0x0013 in
     let zero = eqb (number_at 2 s 38) 0 in
-    let i = pick_inv (both (leb 44 (length s)) (both served (both type zero))) (LeafTo (OfRelation x) 44) NoLeaf (LeafTo p used) no_leaf e in
-    let a : OfRelation x ≡ p = cc i.1 in
-    let b : 44 ≡ used = cc i.1 in
+    let i = pick_inv (both (leb 44 (length s)) (both served (both type zero))) (Some (OfRelation x, 44)) None (Some (p, used)) none≢some e in
+    let a : OfRelation x ≡ p = (pair_is i.1).0 in
+    let b : 44 ≡ used = (pair_is i.1).1 in
     let room = leb-true 44 (length s) (both_left _ (both served (both type zero)) i.0) in
     let tests = both_right (leb 44 (length s)) (both served (both type zero)) i.0 in
     let number = both_right how (is_number (property_at s 12)) (both_left served (both type zero) tests) in
@@ -79,7 +78,7 @@ record PhraseTests (s : List ℕ) (place : ℕ) : Type 0 where
   first : zero_at s 32 (padding 4 (place + 32)) ≡ true
   second : zero_at s (units_end s place) (padding 4 (place + units_end s place)) ≡ true
 
-phrase_tests : (s : List ℕ) (place start count next : ℕ) → phrase_at s place 32 ≡ PhraseTo start count next → PhraseTests s place
+phrase_tests : (s : List ℕ) (place start count next : ℕ) → phrase_at s place 32 ≡ Some (record { start = start; count = count; next = next }) → PhraseTests s place
 unfolding phrase_at
 phrase_tests s place start count next e =
     let n = number_at 4 s (count_at place) in
@@ -87,7 +86,7 @@ phrase_tests s place start count next e =
     let after = padding 4 (place + end) in
     let sized = both (leb 1 n) (leb n phrase_most) in
     let clear = both (zero_at s 32 (padding 4 (place + 32))) (zero_at s end after) in
-    let i = pick_inv (both (leb (end + after) (length s)) (both sized clear)) (PhraseTo (count_at place + 4) n (end + after)) NoPhrase (PhraseTo start count next) no_phrase e in
+    let i = pick_inv (both (leb (end + after) (length s)) (both sized clear)) (Some (record { start = count_at place + 4; count = n; next = end + after })) None (Some (record { start = start; count = count; next = next })) none≢some e in
     let tests = both_right (leb (end + after) (length s)) (both sized clear) i.0 in
     let size = both_left sized clear tests in
     let zero = both_right sized clear tests in
@@ -98,23 +97,20 @@ phrase_tests s place start count next e =
       second = both_right (zero_at s 32 (padding 4 (place + 32))) (zero_at s end after) zero;
     }
 
-content_tests : (s : List ℕ) (place : ℕ) (p : Parts) (used : ℕ) → content_at s place ≡ LeafTo p used
+content_tests : (s : List ℕ) (place : ℕ) (p : Parts) (used : ℕ) → content_at s place ≡ Some (p, used)
     → PhraseTests s place × (is_text (property_at s 8) ≡ true) × (number_at 4 s (locale_at s place + 4) ≤ 1)
 unfolding content_at
-content_tests s place p used e = go (phrase_at s place 32) refl e
-  where
-    go : (r : PhraseAt) → phrase_at s place 32 ≡ r → with_phrase r NoLeaf (content_from s) ≡ LeafTo p used
-        → PhraseTests s place × (is_text (property_at s 8) ≡ true) × (number_at 4 s (locale_at s place + 4) ≤ 1)
-    go NoPhrase q f = absurd (no_leaf f)
-    go (PhraseTo start count next) q f =
-        let text = is_text (property_at s 8) in
-        let method = leb (number_at 4 s (next + 4)) 1 in
-        let i = pick_inv (both (leb (next + 8) (length s)) (both text method)) _ NoLeaf (LeafTo p used) no_leaf f in
-        let tests = both_right (leb (next + 8) (length s)) (both text method) i.0 in (
-          phrase_tests s place start count next q,
-          both_left text method tests,
-          rw (← (phrase_words s place start count next q).2) (leb-true (number_at 4 s (next + 4)) 1 (both_right text method tests)),
-        )
+content_tests s place p used e =
+    let j = then_inv (phrase_at s place 32) (content_from s) (p, used) e in
+    let r = j.0 in
+    let text = is_text (property_at s 8) in
+    let method = leb (number_at 4 s (r.next + 4)) 1 in
+    let i = pick_inv (both (leb (r.next + 8) (length s)) (both text method)) _ None (Some (p, used)) none≢some j.2 in
+    let tests = both_right (leb (r.next + 8) (length s)) (both text method) i.0 in (
+      phrase_tests s place r.start r.count r.next j.1,
+      both_left text method tests,
+      rw (← (phrase_words s place r.start r.count r.next j.1).2) (leb-true (number_at 4 s (r.next + 4)) 1 (both_right text method tests)),
+    )
 
 -- the leaf that is read there
 abbrev content_there : List ℕ → ℕ → Leaf
@@ -142,7 +138,7 @@ content_stands s place bytes room kind tests text =
     (forms_join _ _ place s next (next + 4) last (any_stand 4 s next (next + 4) refl (omega (arith, room)))
     (forms_join _ _ place s (next + 4) last last (number_stands 4 s (next + 4) last bytes (omega arith) room) (forms_end _ s last room))))))))))
 
-content_back : (s : List ℕ) (place : ℕ) (p : Parts) (used : ℕ) → Bytes s → node_kind s ≡ 4 → content_at s place ≡ LeafTo p used → LeafBack s place (leaf_of s p) used
+content_back : (s : List ℕ) (place : ℕ) (p : Parts) (used : ℕ) → Bytes s → node_kind s ≡ 4 → content_at s place ≡ Some (p, used) → LeafBack s place (leaf_of s p) used
 content_back s place p used bytes kind e =
     let w = content_words s place p used e in
     let t = content_tests s place p used e in
@@ -161,11 +157,11 @@ content_back s place p used bytes kind e =
     )
 
 -- a leaf of either kind
-pub leaf_back : (s : List ℕ) (place : ℕ) (p : Parts) (used : ℕ) → Bytes s → leaf_at (node_kind s) s place ≡ LeafTo p used → LeafBack s place (leaf_of s p) used
+pub leaf_back : (s : List ℕ) (place : ℕ) (p : Parts) (used : ℕ) → Bytes s → leaf_at (node_kind s) s place ≡ Some (p, used) → LeafBack s place (leaf_of s p) used
 leaf_back s place p used bytes e =
     by_test (eqb (node_kind s) 4)
     (λ q. content_back s place p used bytes (eqb-true (node_kind s) 4 q) (rw q at e))
     (λ q.
-    let f : pick (eqb (node_kind s) 5) (relation_at s) NoLeaf ≡ LeafTo p used = rw q at e in
-    let i = pick_inv (eqb (node_kind s) 5) (relation_at s) NoLeaf (LeafTo p used) no_leaf f in
+    let f : pick (eqb (node_kind s) 5) (relation_at s) None ≡ Some (p, used) = rw q at e in
+    let i = pick_inv (eqb (node_kind s) 5) (relation_at s) None (Some (p, used)) none≢some f in
     relation_back s place p used bytes (eqb-true (node_kind s) 5 i.0) i.1)

@@ -17,9 +17,8 @@ use Rattle.tree.specs.Leaf.{Leaf, content, relation}
 use Rattle.tree.specs.Limits.{phrase_most}
 use Rattle.tree.specs.Parts.{node_kind, phrase_at, leaf_at, leaf_of}
 use Rattle.tree.specs.declared.Parts.{Parts}
+use Rattle.std.specs.Prelude.{Some}
 use Rattle.tree.specs.declared.Parts.TheVariants.{OfContent, OfRelation}
-use Rattle.tree.specs.declared.PhraseAt.TheVariants.{PhraseTo}
-use Rattle.tree.specs.declared.LeafAt.TheVariants.{LeafTo}
 use Rattle.tree.specs.Writer.{leaf_form, ContentFits, RelationFits, LeafFits}
 use Rattle.tree.proofs.LeafLaws.{phrase_by, content_by, relation_by}
 use Rattle.tree.proofs.FormLaws.{Stands, zeros_long, zeros_there, number_there, forms_apart, forms_ended, forms_start}
@@ -29,7 +28,7 @@ use Rattle.tree.proofs.FieldForms.{spec_there, units_long, units_there}
 pub record LeafThere (l : Leaf) (s : List ℕ) (place used : ℕ) : Type 0 where
   pub parts : Parts
   pub same : leaf_of s parts ≡ l
-  pub read : leaf_at (node_kind s) s place ≡ LeafTo parts used
+  pub read : leaf_at (node_kind s) s place ≡ Some (parts, used)
   pub past : 8 ≤ length s
   pub low : 4 ≤ node_kind s
 
@@ -53,7 +52,7 @@ relation_there relop property value place used s fits w =
     let is_type : number_at 2 s 36 ≡ 0x0013 = number_there 2 s 36 38 0x0013 (omega arith) type.0 in
     let is_zero : number_at 2 s 38 ≡ 0 = number_there 2 s 38 40 0 (omega arith) zero.0 in
     let is_value : number_at 4 s 40 ≡ value = number_there 4 s 40 44 value fits.held last.0 in
-    let passes : true ≡ both (both (leb relop 5) (is_number property)) (both (eqb (number_at 2 s 36) 0x0013) (eqb (number_at 2 s 38) 0)) =
+    let passes : true ≡ both (both (both (leb relop 5) (is_number property)) (eqb (number_at 2 s 36) 0x0013)) (eqb (number_at 2 s 38) 0) =
     rw (le-leb relop 5 fits.served, fits.number, eq-eqb (number_at 2 s 36) 0x0013 is_type, eq-eqb (number_at 2 s 38) 0 is_zero) in
     record {
       parts = OfRelation (record { relop = relop; property = property; value = value });
@@ -89,14 +88,14 @@ content_there_lem property phrase method place used s fits w =
     let is_named : property_at s 8 ≡ property = spec_there s 8 32 property (omega (arith, known)) named.0 in
     let is_size : number_at 4 s (32 + before) ≡ count = number_there 4 s (32 + before) start count (omega (arith, fits.most)) size.0 in
     let is_method : number_at 4 s (next + 4) ≡ method = number_there 4 s (next + 4) (next + 8) method (omega (arith, fits.served)) last.0 in
-    let clear : true ≡ both (both (leb 1 count) (leb count phrase_most)) (both (zero_at s 32 before) (zero_at s end after)) =
+    let clear : true ≡ both (both (both (leb 1 count) (leb count phrase_most)) (zero_at s 32 before)) (zero_at s end after) =
     rw (
       le-leb 1 count fits.least,
       le-leb count phrase_most fits.most,
       zeros_there before s 32 (32 + before) first.0,
       zeros_there after s end next second.0,
     ) in
-    let phrase_read : phrase_at s place 32 ≡ PhraseTo start count next =
+    let phrase_read : phrase_at s place 32 ≡ Some (record { start = start; count = count; next = next }) =
     sym (phrase_by s place 32 before refl count after (sym is_size) refl second.0.room true clear) in
     let passes : true ≡ both (is_text property) (leb method 1) = rw (fits.text, le-leb method 1 fits.served) in
     record {

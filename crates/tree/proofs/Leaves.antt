@@ -17,8 +17,9 @@ use Rattle.wire.specs.Padding.{padding}
 use Rattle.wire.specs.Property.{of_texts}
 use Rattle.tree.specs.LeafHolds.{phrase_holds}
 use Rattle.tree.specs.Parts.{phrase_at, content_at, relation_at, leaf_at}
-use Rattle.tree.specs.declared.LeafAt.TheVariants.{LeafTo, NoLeaf}
-use Rattle.tree.proofs.LeafLaws.{pick_inv, no_leaf}
+use Rattle.std.specs.Prelude.{None, Some}
+use Rattle.lists.proofs.Options.{none≢some}
+use Rattle.tree.proofs.LeafLaws.{pick_inv}
 use Rattle.tree.proofs.LeafWords.{relation_words, content_words}
 use Rattle.tree.specs.VerdictTold.{told}
 use Rattle.tree.specs.LeafPlaces.{locale_at}
@@ -59,8 +60,8 @@ module _ (s : List ℕ) (count after : ℕ) (n : count ≡ number_at 4 s 32) (a 
 
 module _ (kind : ℕ) (s : List ℕ) (w : LeafReady kind s) where
   module _ (k : (kind ≡ 4 → ⊥)) where
-    relation_read : relation_at s ≡ LeafTo w.parts w.used
-    relation_read = (pick_inv (eqb kind 5) (relation_at s) NoLeaf (LeafTo w.parts w.used) no_leaf (rw (ne_eqb kind 4 k) at w.read)).1
+    relation_read : relation_at s ≡ Some (w.parts, w.used)
+    relation_read = (pick_inv (eqb kind 5) (relation_at s) None (Some (w.parts, w.used)) none≢some (rw (ne_eqb kind 4 k) at w.read)).1
 
     pub relation_inside : 44 ≤ length s
     relation_inside = (relation_words s w.parts w.used relation_read).0
@@ -72,7 +73,7 @@ module _ (kind : ℕ) (s : List ℕ) (w : LeafReady kind s) where
     relation_size_lem = let r = relation_words s w.parts w.used relation_read in rw (w.read, r.2)
 
   module _ (k : kind ≡ 4) where
-    content_read : content_at s 0 ≡ LeafTo w.parts w.used
+    content_read : content_at s 0 ≡ Some (w.parts, w.used)
     content_read = rw (eq-eqb kind 4 k) at w.read
 
     pub content_inside : locale_at s 0 + 8 ≤ length s

@@ -3,11 +3,11 @@
 use mathlib.Core.Path.{◌≡◌, refl, sym, ap, ◌∙◌}
 use mathlib.Core.Bool.{Bool, true, false, not}
 use mathlib.Core.List.{List}
-use mathlib.Core.Option.{Option, none, some}
-use Prim.Native.Nat.{ℕ, zero, suc, ◌+◌, ◌-◌, ◌/◌, ◌%◌, ◌≤◌, ◌<◌}
+use Rattle.std.specs.Prelude.{Option, None, Some}
+use Prim.Native.Nat.{ℕ, zero, suc, ◌+◌, ◌-◌, ◌%◌, ◌≤◌, ◌<◌}
 use native.Mathlib.Nat.{add-zero, zero-add}
 use native.Mathlib.Omega.{arith}
-use borrow.Author.Tests.{leb-true, leb-false, eq-eqb, ne_eqb, eqb-true, eqb-false}
+use borrow.Author.Tests.{leb-true, leb-false, ne_eqb, eqb-true, eqb-false}
 use lib.Dec.{leb, eqb}
 use lib.ListN.{length, take, drop, length-drop}
 use lib.Seq.{drop-drop}
@@ -20,19 +20,17 @@ use Rattle.wire.specs.Padding.{padding, zero_at}
 use Rattle.wire.proofs.Words.{rest}
 use Rattle.tree.specs.Parts.{node_kind, leaf_at, with_leaf, leaf_of}
 use Rattle.tree.specs.declared.Parts.{Parts}
-use Rattle.tree.specs.declared.LeafAt.{LeafAt}
-use Rattle.tree.specs.declared.LeafAt.TheVariants.{LeafTo, NoLeaf}
 use Rattle.tree.proofs.LeafLaws.{pick_inv}
 use Rattle.tree.specs.LeafHolds.{leaf_holds}
 use Rattle.tree.specs.Limits.{bytes_most, nodes_most, levels_most}
 use Rattle.tree.specs.Tree.{Tree, Forest, leaf, and, or, end, further}
-use Rattle.tree.specs.Tree as Tree
 use Rattle.tree.specs.TreeHolds.{says, every_says, some_says, tells_of, holds, held_by}
 use Rattle.tree.specs.Reader.{TreeRead, ForestRead, Read, read_list, joined, branch_read, negated, not_read, leaf_read, read_tree, restriction, is_tree}
 use Rattle.tree.specs.Kinds.{is_branch}
 use Rattle.tree.proofs.TreeFacts.{held}
 use Rattle.tree.proofs.TreeLaws.{no_levels, no_nodes, no_head, node_branch, node_not, node_leaf}
-use Rattle.tree.specs.VerdictTold.{told, turned, decides}
+use Rattle.tree.specs.VerdictTold.{told, decides}
+use Rattle.tree.specs.declared.Verdict.{Verdict}
 use Rattle.catalogue.specs.CataloguePlaces.{row_of}
 use Rattle.catalogue.specs.declared.Fields.{Fields}
 use Rattle.tree.specs.LeafPlaces.{relation_in}
@@ -41,34 +39,11 @@ use Rattle.tree.specs.SizeTold.{leaf_size, Takes, NodeTakes, Rest, RestReady, Re
 use Rattle.tree.specs.HoldReady.{LeafReady, Found}
 use Rattle.tree.proofs.Leaves.{leaf_anywhere, leaf_fours, relation_inside, relation_is, relation_size_lem}
 
--- an answer in one number
-pub told_end : (h : Bool) (e : ℕ) → told h e / 2 ≡ e
-told_end true e = omega arith
-told_end false e = omega arith
-
-pub told_holds : (h : Bool) (e : ℕ) → eqb (told h e % 2) 1 ≡ h
-told_holds true e = eq-eqb (told true e % 2) 1 (omega arith)
-told_holds false e = ne_eqb (told false e % 2) 1 (λ q. omega (arith, q))
-
 told_same : (h k : Bool) (e u : ℕ) → told h e ≡ told k u → (h ≡ k) × (e ≡ u)
-told_same h k e u q = (
-  sym (told_holds h e) ∙ ap (λ (n : ℕ). eqb (n % 2) 1) q ∙ told_holds k u,
-  sym (told_end h e) ∙ ap (λ (n : ℕ). n / 2) q ∙ told_end k u,
-)
-
--- every number is one
-told_again : (n : ℕ) → told (eqb (n % 2) 1) (n / 2) ≡ n
-told_again n =
-    by_test (eqb (n % 2) 1)
-    (λ q. rw q (omega (arith, eqb-true (n % 2) 1 q)))
-    (λ q. rw q (omega (arith, eqb-false (n % 2) 1 q)))
-
-pub turned_told : (h : Bool) (e : ℕ) → turned (told h e) ≡ told (not h) e
-turned_told true e = rw (told_holds true e) (omega arith)
-turned_told false e = rw (told_holds false e) (omega arith)
+told_same h k e u q = (ap (λ (v : Verdict). v.holds) q, ap (λ (v : Verdict). v.used) q)
 
 -- a node that is read has a level, a node and its head
-module _ (levels nodes place : ℕ) (s : List ℕ) (r : TreeRead) (e : read_tree levels nodes place s ≡ some r) where
+module _ (levels nodes place : ℕ) (s : List ℕ) (r : TreeRead) (e : read_tree levels nodes place s ≡ Some r) where
   pub node_levels : levels ≡ 0 → ⊥
   node_levels q = none≢some (sym (no_levels levels nodes place s q) ∙ e)
 
@@ -82,16 +57,16 @@ module _ (levels nodes place : ℕ) (s : List ℕ) (r : TreeRead) (e : read_tree
       (λ q. absurd (none≢some (sym (no_head levels nodes place s (leb-false 8 (length s) q)) ∙ e)))
 
 -- and it is read by its kind, its first word
-module _ (levels nodes place : ℕ) (s : List ℕ) (r : TreeRead) (e : read_tree levels nodes place s ≡ some r) (kind : ℕ) (k : kind ≡ node_kind s) where
-  pub as_branch : is_branch kind ≡ true → branch_read (read_tree (levels - 1)) kind (nodes - 1) place s ≡ some r
+module _ (levels nodes place : ℕ) (s : List ℕ) (r : TreeRead) (e : read_tree levels nodes place s ≡ Some r) (kind : ℕ) (k : kind ≡ node_kind s) where
+  pub as_branch : is_branch kind ≡ true → branch_read (read_tree (levels - 1)) kind (nodes - 1) place s ≡ Some r
   as_branch b =
       sym (node_branch levels nodes place s (node_levels levels nodes place s r e) (node_nodes levels nodes place s r e) (node_head levels nodes place s r e) kind k b) ∙ e
 
-  pub as_not : is_branch kind ≡ false → kind ≡ 3 → not_read (read_tree (levels - 1)) (nodes - 1) place s ≡ some r
+  pub as_not : is_branch kind ≡ false → kind ≡ 3 → not_read (read_tree (levels - 1)) (nodes - 1) place s ≡ Some r
   as_not b n =
       sym (node_not levels nodes place s (node_levels levels nodes place s r e) (node_nodes levels nodes place s r e) (node_head levels nodes place s r e) kind k b n) ∙ e
 
-  pub as_leaf : is_branch kind ≡ false → (kind ≡ 3 → ⊥) → leaf_read kind (nodes - 1) place s ≡ some r
+  pub as_leaf : is_branch kind ≡ false → (kind ≡ 3 → ⊥) → leaf_read kind (nodes - 1) place s ≡ Some r
   as_leaf b n =
       sym (node_leaf levels nodes place s (node_levels levels nodes place s r e) (node_nodes levels nodes place s r e) (node_head levels nodes place s r e) kind k b n) ∙ e
 
@@ -111,7 +86,7 @@ branch_found levels s f kind k b =
       inside = f.inside;
     }
 
-pub branch_told : (levels : ℕ) (s : List ℕ) (row : Row) (answer kind : ℕ) → kind ≡ node_kind s → is_branch kind ≡ true
+pub branch_told : (levels : ℕ) (s : List ℕ) (row : Row) (answer : Verdict) (kind : ℕ) → kind ≡ node_kind s → is_branch kind ≡ true
     → Tells (branch_read (read_tree (levels - 1)) kind) s row answer → Tells (read_tree levels) s row answer
 branch_told levels s row answer kind k b tells place nodes r a e =
     tells place (nodes - 1) r a (as_branch levels nodes place s r e kind k b)
@@ -128,9 +103,9 @@ leaf_kind kind h = rw (ne_eqb kind 1 (λ q. omega (arith, h, q)), ne_eqb kind 2 
 
 -- a not is answered by its child
 module _ (levels : ℕ) (s : List ℕ) (kind : ℕ) (k : kind ≡ node_kind s) (b : is_branch kind ≡ false) (n : kind ≡ 3) where
-  not_child : (place nodes : ℕ) (r : TreeRead) → read_tree levels nodes place s ≡ some r
+  not_child : (place nodes : ℕ) (r : TreeRead) → read_tree levels nodes place s ≡ Some r
       → (t : TreeRead)
-      × (read_tree (levels - 1) (nodes - 1) (place + 8) (drop 8 s) ≡ some t)
+      × (read_tree (levels - 1) (nodes - 1) (place + 8) (drop 8 s) ≡ Some t)
       × (r ≡ record { tree = Tree.not t.tree; used = 8 + t.used; nodes = t.nodes })
   not_child place nodes r e =
       let j = then_inv (read_tree (levels - 1) (nodes - 1) (place + 8) (drop 8 s)) negated r (as_not levels nodes place s r e kind k b n) in
@@ -150,16 +125,15 @@ module _ (levels : ℕ) (s : List ℕ) (kind : ℕ) (k : kind ≡ node_kind s) (
         inside = omega (arith, f.inside, length-drop 8 s, ap (λ (r : TreeRead). r.used) j.2);
       })
 
-  pub not_told : (row : Row) (answer : ℕ) → Tells (read_tree (levels - 1)) (take (length s - 8) (drop 8 s)) row answer
-      → Tells (read_tree levels) s row (turned (answer + 16))
+  pub not_told : (row : Row) (answer : Verdict) → Tells (read_tree (levels - 1)) (take (length s - 8) (drop 8 s)) row answer
+      → Tells (read_tree levels) s row (told (not answer.holds) (8 + answer.used))
   unfolding says
   not_told row answer tells place nodes r a e =
       let j = not_child place nodes r e in
       let t = j.0 in
       let f : Tells (read_tree (levels - 1)) (drop 8 s) row answer = rw (rest 8 s) at tells in
-      let past : told (holds t.tree row) t.used + 16 ≡ told (holds t.tree row) (8 + t.used) = omega arith in
-      let turns : turned (answer + 16) ≡ told (holds (Tree.not t.tree) row) (8 + t.used)
-      = rw (f (place + 8) (nodes - 1) t (omega (arith, a)) j.1, past) (turned_told (holds t.tree row) (8 + t.used)) in
+      let turns : told (not answer.holds) (8 + answer.used) ≡ told (holds (Tree.not t.tree) row) (8 + t.used)
+      = ap (λ (v : Verdict). told (not v.holds) (8 + v.used)) (f (place + 8) (nodes - 1) t (omega (arith, a)) j.1) in
       turns ∙ ap (λ (x : TreeRead). told (holds x.tree row) x.used) (sym j.2)
 
   pub not_takes : (size : ℕ) → Takes (read_tree (levels - 1)) (take (length s - 8) (drop 8 s)) size → Takes (read_tree levels) s (8 + size)
@@ -173,34 +147,34 @@ pub takes_inside : (levels : ℕ) (s : List ℕ) (size : ℕ) → Found (read_tr
 takes_inside levels s size f takes = omega (arith, takes f.place f.nodes f.node f.aligned f.is, f.inside)
 
 -- what is told of a node that is found takes no more than its bytes
-pub told_inside : (levels : ℕ) (s : List ℕ) (row : Row) (answer : ℕ) → Found (read_tree levels) s → Tells (read_tree levels) s row answer → answer / 2 ≤ length s
-told_inside levels s row answer f tells =
-    rw (tells f.place f.nodes f.node f.aligned f.is, told_end (holds f.node.tree row) f.node.used) f.inside
+pub told_inside : (levels : ℕ) (s : List ℕ) (row : Row) (answer : Verdict) → Found (read_tree levels) s → Tells (read_tree levels) s row answer
+    → answer.used ≤ length s
+told_inside levels s row answer f tells = rw (tells f.place f.nodes f.node f.aligned f.is) f.inside
 
 -- a leaf is answered as it is read
 module _ (levels : ℕ) (s : List ℕ) (kind : ℕ) (k : kind ≡ node_kind s) (b : is_branch kind ≡ false) (n : kind ≡ 3 → ⊥) where
-  leaf_there : (place nodes : ℕ) (r : TreeRead) → place % 4 ≡ 0 → read_tree levels nodes place s ≡ some r
+  leaf_there : (place nodes : ℕ) (r : TreeRead) → place % 4 ≡ 0 → read_tree levels nodes place s ≡ Some r
       → (parts : Parts)
       × (used : ℕ)
-      × (leaf_at kind s 0 ≡ LeafTo parts used)
+      × (leaf_at kind s 0 ≡ Some (parts, used))
       × (r ≡ record { tree = leaf place (leaf_of s parts); used = used; nodes = nodes - 1 })
   leaf_there place nodes r a e = go (leaf_at kind s place) refl (as_leaf levels nodes place s r e kind k b n)
     where
-      go : (x : LeafAt) → leaf_at kind s place ≡ x
-          → with_leaf x none (λ parts used. some (record { tree = leaf place (leaf_of s parts); used = used; nodes = nodes - 1 })) ≡ some r
+      go : (x : Option (Parts × ℕ)) → leaf_at kind s place ≡ x
+          → with_leaf x None (λ parts used. Some (record { tree = leaf place (leaf_of s parts); used = used; nodes = nodes - 1 })) ≡ Some r
           → (parts : Parts)
           × (used : ℕ)
-          × (leaf_at kind s 0 ≡ LeafTo parts used)
+          × (leaf_at kind s 0 ≡ Some (parts, used))
           × (r ≡ record { tree = leaf place (leaf_of s parts); used = used; nodes = nodes - 1 })
-      go NoLeaf q e = absurd (none≢some e)
-      go (LeafTo parts used) q e = (parts, used, sym (leaf_anywhere kind s place a) ∙ q, sym (some_is e))
+      go None q e = absurd (none≢some e)
+      go (Some (parts, used)) q e = (parts, used, sym (leaf_anywhere kind s place a) ∙ q, sym (some_is e))
 
   pub leaf_found : Found (read_tree levels) s → LeafReady kind s
   leaf_found f =
       let l = leaf_there f.place f.nodes f.node f.aligned f.is in
       record { parts = l.0; used = l.1; read = l.2 }
 
-  pub leaf_answer : (row : Row) (answer : ℕ) → answer ≡ leaf_told kind s row → Tells (read_tree levels) s row answer
+  pub leaf_answer : (row : Row) (answer : Verdict) → answer ≡ leaf_told kind s row → Tells (read_tree levels) s row answer
   unfolding says
   leaf_answer row answer q place nodes r a e =
       let l = leaf_there place nodes r a e in
@@ -262,21 +236,21 @@ child_decides : (kind : ℕ) (b others : Bool) → decides kind b ≡ true → w
 child_decides kind true others d = by_test (eqb kind 1) (λ q. absurd (true≢false (sym (rw q at d)))) (λ q. rw q)
 child_decides kind false others d = by_test (eqb kind 1) (λ q. rw q) (λ q. absurd (true≢false (sym (rw q at d))))
 
-joined_holds : (row : Row) (kind : ℕ) (f : ForestRead) (r : TreeRead) → joined kind f ≡ some r → holds r.tree row ≡ list_holds kind row f.forest
+joined_holds : (row : Row) (kind : ℕ) (f : ForestRead) (r : TreeRead) → joined kind f ≡ Some r → holds r.tree row ≡ list_holds kind row f.forest
 unfolding says
 joined_holds row kind f r e = go f.forest f.used f.nodes e
   where
-    go : (g : Forest) (used nodes : ℕ) → joined kind (record { forest = g; used = used; nodes = nodes }) ≡ some r
+    go : (g : Forest) (used nodes : ℕ) → joined kind (record { forest = g; used = used; nodes = nodes }) ≡ Some r
         → holds r.tree row ≡ list_holds kind row g
     go end used nodes e = absurd (none≢some e)
     go (further t g) used nodes e =
         rw (← some_is {a = record { tree = pick (eqb kind 1) (and t g) (or t g); used = 12 + used; nodes = nodes }} e)
         (by_test (eqb kind 1) (λ q. rw q) (λ q. rw q))
 
-joined_used : (kind : ℕ) (f : ForestRead) (r : TreeRead) → joined kind f ≡ some r → r.used ≡ 12 + f.used
+joined_used : (kind : ℕ) (f : ForestRead) (r : TreeRead) → joined kind f ≡ Some r → r.used ≡ 12 + f.used
 joined_used kind f r e = go f.forest f.used f.nodes e
   where
-    go : (g : Forest) (used nodes : ℕ) → joined kind (record { forest = g; used = used; nodes = nodes }) ≡ some r → r.used ≡ 12 + used
+    go : (g : Forest) (used nodes : ℕ) → joined kind (record { forest = g; used = used; nodes = nodes }) ≡ Some r → r.used ≡ 12 + used
     go end used nodes e = absurd (none≢some e)
     go (further t g) used nodes e = rw (← some_is {a = record { tree = pick (eqb kind 1) (and t g) (or t g); used = 12 + used; nodes = nodes }} e)
 
@@ -285,31 +259,31 @@ abbrev First : Read → ℕ → ℕ → List ℕ → ForestRead → ℕ → Type
 First read count place s f nodes =
     (x : TreeRead)
     × (g : ForestRead)
-    × (read nodes place s ≡ some x)
-    × (read_list read count x.nodes (place + x.used) (drop x.used s) ≡ some g)
+    × (read nodes place s ≡ Some x)
+    × (read_list read count x.nodes (place + x.used) (drop x.used s) ≡ Some g)
     × (f ≡ record { forest = further x.tree g.forest; used = x.used + g.used; nodes = g.nodes })
 
-child_read : (read : Read) (count place : ℕ) (s : List ℕ) (f : ForestRead) (nodes : ℕ) → place % 4 ≡ 0 → read_list read (suc count) nodes place s ≡ some f
+child_read : (read : Read) (count place : ℕ) (s : List ℕ) (f : ForestRead) (nodes : ℕ) → place % 4 ≡ 0 → read_list read (suc count) nodes place s ≡ Some f
     → First read count place s f nodes
 unfolding read_list
 child_read read count place s f nodes a e =
     let unpadded : padding 4 place ≡ 0 = omega (arith, a) in
-    let i = pick_inv (both (leb 0 (length s)) (zero_at s 0 0)) _ none (some f) none≢some (rw unpadded at e) in
+    let i = pick_inv (both (leb 0 (length s)) (zero_at s 0 0)) _ None (Some f) none≢some (rw unpadded at e) in
     let j = then_inv (read nodes (place + 0) s) _ f i.1 in
     let m = then_inv (read_list read count j.0.nodes (place + (0 + j.0.used)) (drop (0 + j.0.used) s)) _ f j.2 in
     plainly j.0 m.0 j.1 m.1 m.2
   where
-    plainly : (x : TreeRead) (g : ForestRead) → read nodes (place + 0) s ≡ some x
-        → read_list read count x.nodes (place + (0 + x.used)) (drop (0 + x.used) s) ≡ some g
-        → some (record { forest = further x.tree g.forest; used = 0 + x.used + g.used; nodes = g.nodes }) ≡ some f
+    plainly : (x : TreeRead) (g : ForestRead) → read nodes (place + 0) s ≡ Some x
+        → read_list read count x.nodes (place + (0 + x.used)) (drop (0 + x.used) s) ≡ Some g
+        → Some (record { forest = further x.tree g.forest; used = 0 + x.used + g.used; nodes = g.nodes }) ≡ Some f
         → First read count place s f nodes
     plainly x g p q w = (x, g, rw add-zero at p, rw zero-add at q, rw zero-add at (sym (some_is w)))
 
 -- every node takes a multiple of 4, so that none of a list needs padding
 abbrev Fours : Read → Type 0
-Fours read = (place nodes : ℕ) (s : List ℕ) (r : TreeRead) → place % 4 ≡ 0 → read nodes place s ≡ some r → r.used % 4 ≡ 0
+Fours read = (place nodes : ℕ) (s : List ℕ) (r : TreeRead) → place % 4 ≡ 0 → read nodes place s ≡ Some r → r.used % 4 ≡ 0
 
-list_fours : (read : Read) → Fours read → (count place nodes : ℕ) (s : List ℕ) (f : ForestRead) → place % 4 ≡ 0 → read_list read count nodes place s ≡ some f
+list_fours : (read : Read) → Fours read → (count place nodes : ℕ) (s : List ℕ) (f : ForestRead) → place % 4 ≡ 0 → read_list read count nodes place s ≡ Some f
     → f.used % 4 ≡ 0
 unfolding read_list
 list_fours read good zero place nodes s f a e = ap (λ (x : ForestRead). x.used % 4) (sym (some_is {a = record { forest = end; used = 0; nodes = nodes }} e))
@@ -325,8 +299,8 @@ tree_fours (suc levels) place nodes s r a e =
     let below : suc levels - 1 ≡ levels = omega arith in
     by_test (is_branch (node_kind s))
     (λ b.
-    let q : branch_read (read_tree levels) (node_kind s) (nodes - 1) place s ≡ some r = rw below at (as_branch (suc levels) nodes place s r e (node_kind s) refl b) in
-    let i = pick_inv (leb 12 (length s)) _ none (some r) none≢some q in
+    let q : branch_read (read_tree levels) (node_kind s) (nodes - 1) place s ≡ Some r = rw below at (as_branch (suc levels) nodes place s r e (node_kind s) refl b) in
+    let i = pick_inv (leb 12 (length s)) _ None (Some r) none≢some q in
     let j = then_inv (read_list (read_tree levels) (number_at 4 s 8) (nodes - 1) (place + 12) (drop 12 s)) (joined (node_kind s)) r i.1 in
     omega (arith, joined_used (node_kind s) j.0 r j.2, list_fours (read_tree levels) (tree_fours levels) _ (place + 12) (nodes - 1) (drop 12 s) j.0 (omega (arith, a)) j.1))
     (λ b.
@@ -374,15 +348,15 @@ module _ (read : Read) (s : List ℕ) (place count at last : ℕ) (l : Rest read
   rest_none : count ≡ 0 → (l.children.forest ≡ end) × (at ≡ last)
   unfolding read_list
   rest_none z =
-      let e : read_list read 0 l.nodes (place + at) (drop at s) ≡ some l.children = rw z at l.is in
+      let e : read_list read 0 l.nodes (place + at) (drop at s) ≡ Some l.children = rw z at l.is in
       let f : record { forest = end; used = 0; nodes = l.nodes } ≡ l.children = some_is e in
       (ap (λ (f : ForestRead). f.forest) (sym f), omega (arith, l.ends, ap (λ (f : ForestRead). f.used) f))
 
 -- the children of an and or an or that is read there
-module _ (read : Read) (kind : ℕ) (s : List ℕ) (place nodes : ℕ) (r : TreeRead) (a : place % 4 ≡ 0) (e : branch_read read kind nodes place s ≡ some r) where
-  branch_list : (12 ≤ length s) × ((f : ForestRead) × (read_list read (number_at 4 s 8) nodes (place + 12) (drop 12 s) ≡ some f) × (joined kind f ≡ some r))
+module _ (read : Read) (kind : ℕ) (s : List ℕ) (place nodes : ℕ) (r : TreeRead) (a : place % 4 ≡ 0) (e : branch_read read kind nodes place s ≡ Some r) where
+  branch_list : (12 ≤ length s) × ((f : ForestRead) × (read_list read (number_at 4 s 8) nodes (place + 12) (drop 12 s) ≡ Some f) × (joined kind f ≡ Some r))
   branch_list =
-      let i = pick_inv (leb 12 (length s)) _ none (some r) none≢some e in
+      let i = pick_inv (leb 12 (length s)) _ None (Some r) none≢some e in
       let j = then_inv (read_list read (number_at 4 s 8) nodes (place + 12) (drop 12 s)) (joined kind) r i.1 in
       (leb-true 12 (length s) i.0, (j.0, j.1, j.2))
 
@@ -474,7 +448,7 @@ pub record Left (read : Read) (kind : ℕ) (s : List ℕ) (row : Row) (place cou
 -- the same for whatever list the reader finds there
 abbrev pub Lasts : Read → ℕ → List ℕ → Row → ℕ → ℕ → Bool → Type 0
 Lasts read kind s row count at held =
-    (place nodes : ℕ) (r : TreeRead) → place % 4 ≡ 0 → branch_read read kind nodes place s ≡ some r
+    (place nodes : ℕ) (r : TreeRead) → place % 4 ≡ 0 → branch_read read kind nodes place s ≡ Some r
     → Left read kind s row place count at held (holds r.tree row) r.used
 
 module _ (read : Read) (kind : ℕ) (s : List ℕ) (row : Row) where
@@ -501,10 +475,6 @@ module _ (read : Read) (kind : ℕ) (s : List ℕ) (row : Row) where
 
     left_none : count ≡ 0 → held ≡ all
     left_none z = sym (list_empty kind row held) ∙ (rw (rest_none read s place count at last l.rest z).0 at l.says)
-
--- an answer is taken apart, and says the bytes too
-pub answer_tells : (read : Read) (s : List ℕ) (row : Row) (answer : ℕ) → Tells read s row answer → Tells read s row (told (eqb (answer % 2) 1) (answer / 2))
-answer_tells read s row answer tells = rw (told_again answer) tells
 
 told_takes : (read : Read) (s : List ℕ) (row : Row) (says : Bool) (used : ℕ) → Tells read s row (told says used) → Takes read s used
 told_takes read s row says used tells place nodes r a e = (told_same says (holds r.tree row) used r.used (tells place nodes r a e)).1
@@ -581,7 +551,7 @@ module _ (levels kind : ℕ) (s : List ℕ) (row : Row) (f : Found (branch_read 
 -- a whole tree is a node at the start of its bytes
 pub record Root (s : List ℕ) : Type 0 where
   pub tree : Tree
-  pub is : restriction s ≡ some tree
+  pub is : restriction s ≡ Some tree
   pub found : Found (read_tree levels_most) s
   pub same : found.node.tree ≡ tree
 
@@ -589,8 +559,8 @@ pub root : (s : List ℕ) → is_tree (restriction s) ≡ true → Root s
 root s e = go (restriction s) refl e
   where
     go : (o : Option Tree) → restriction s ≡ o → is_tree o ≡ true → Root s
-    go none q e = absurd (true≢false (sym e))
-    go (some t) q e =
+    go None q e = absurd (true≢false (sym e))
+    go (Some t) q e =
         let h = held s t q in
         record {
           tree = t;
@@ -611,7 +581,6 @@ root s e = go (restriction s) refl e
 pub root_holds : (s : List ℕ) (row : Row) (answer : Bool) (w : Root s) → answer ≡ holds w.found.node.tree row → answer ≡ held_by (restriction s) row
 root_holds s row answer w a = rw (w.is, ← w.same, a)
 
-pub root_answer : (s : List ℕ) (row : Row) (answer last : ℕ) (w : Root s) → answer ≡ told (holds w.found.node.tree row) last
-    → eqb (answer % 2) 1 ≡ held_by (restriction s) row
-root_answer s row answer last w a =
-    root_holds s row (eqb (answer % 2) 1) w (ap (λ (n : ℕ). eqb (n % 2) 1) a ∙ told_holds (holds w.found.node.tree row) last)
+pub root_answer : (s : List ℕ) (row : Row) (answer : Verdict) (last : ℕ) (w : Root s) → answer ≡ told (holds w.found.node.tree row) last
+    → answer.holds ≡ held_by (restriction s) row
+root_answer s row answer last w a = root_holds s row answer.holds w (ap (λ (v : Verdict). v.holds) a)

@@ -2,7 +2,7 @@
 use mathlib.Core.Path.{◌≡◌, refl, sym, ap, ◌∙◌}
 use mathlib.Core.List.{List}
 use mathlib.Core.Logic.{◌↔◌}
-use mathlib.Core.Option.{Option, none, some}
+use Rattle.std.specs.Prelude.{Option, None, Some}
 use Prim.Native.Nat.{ℕ, ◌+◌, ◌-◌, ◌≤◌}
 use native.Mathlib.Nat.{zero-add}
 use native.Mathlib.Omega.{arith}
@@ -23,8 +23,8 @@ use Rattle.tree.proofs.TreeFacts.{held, within_limits}
 write_long : (t : Tree) → length (write 0 t) ≡ length (tree_form t 0)
 write_long t = length-map (tree_form t 0) written
 
-write_byte : (t : Tree) (i b : ℕ) → get_or (tree_form t 0) i none ≡ some b → get_or (write 0 t) i 0 ≡ b
-write_byte t i b e = get_or-map written (tree_form t 0) i none ∙ ap written e
+write_byte : (t : Tree) (i b : ℕ) → get_or (tree_form t 0) i None ≡ Some b → get_or (write 0 t) i 0 ≡ b
+write_byte t i b e = get_or-map written (tree_form t 0) i None ∙ ap written e
 
 -- in bytes that differ from these in weights and locales alone the tree stands from the first to the last
 alike_stands : (t : Tree) (s : List ℕ) → Alike t s (write 0 t) → Stands (tree_form t 0) s 0 (length s)
@@ -43,7 +43,7 @@ stands_alike t s h =
     }
 
 -- so they read as that tree, with its positions, if it is within the limits
-pub reads_alike : (t : Tree) (s : List ℕ) → Within t → Alike t s (write 0 t) → restriction s ≡ some (positioned 0 t)
+pub reads_alike : (t : Tree) (s : List ℕ) → Within t → Alike t s (write 0 t) → restriction s ≡ Some (positioned 0 t)
 unfolding restriction
 reads_alike t s fits h =
     let short : length s ≤ bytes_most = omega (arith, h.size, fits.bytes) in
@@ -53,11 +53,11 @@ reads_alike t s fits h =
     rw (le-leb (length s) bytes_most short, read, eq-eqb (length s) (length s) refl)
 
 -- what is written of a tree within the limits reads back
-pub reads_written : (t : Tree) → Within t → restriction (write 0 t) ≡ some (positioned 0 t)
+pub reads_written : (t : Tree) → Within t → restriction (write 0 t) ≡ Some (positioned 0 t)
 reads_written t fits = reads_alike t (write 0 t) fits (record { size = refl; each = λ i b e. refl })
 
 -- and what reads as a tree is what is written of it, but for weights and locales; the tree is within the limits, and has its positions
-pub written_reads : (s : List ℕ) (t : Tree) → Bytes s → restriction s ≡ some t → Within t × Alike t s (write 0 t) × (positioned 0 t ≡ t)
+pub written_reads : (s : List ℕ) (t : Tree) → Bytes s → restriction s ≡ Some t → Within t × Alike t s (write 0 t) × (positioned 0 t ≡ t)
 written_reads s t bytes e =
     let h = held s t e in
     let back = tree_back levels_most nodes_most 0 s (record { tree = t; used = length s; nodes = h.left }) bytes h.read in
@@ -73,17 +73,17 @@ written_reads s t bytes e =
     (within, same, some_is (sym (reads_alike t s within same) ∙ e))
 
 -- two byte strings that differ in weights and locales alone read alike
-pub alike : (s other : List ℕ) (t : Tree) → Bytes s → restriction s ≡ some t → Alike t s other → restriction other ≡ some t
+pub alike : (s other : List ℕ) (t : Tree) → Bytes s → restriction s ≡ Some t → Alike t s other → restriction other ≡ Some t
 alike s other t bytes e h =
     let back = written_reads s t bytes e in
     let same : Alike t other (write 0 t) =
     record { size = sym h.size ∙ back.1.size; each = λ i b f. sym (h.each i b f) ∙ back.1.each i b f } in
-    reads_alike t other back.0 same ∙ ap some back.2
+    reads_alike t other back.0 same ∙ ap Some back.2
 
 -- refusal 16 of bytes, by the writer alone: they are those of no tree within the limits, whatever its weights and locales
-pub no_tree : (s : List ℕ) → Bytes s → (restriction s ≡ none) ↔ ((t : Tree) → Within t → Alike t s (write 0 t) → ⊥)
+pub no_tree : (s : List ℕ) → Bytes s → (restriction s ≡ None) ↔ ((t : Tree) → Within t → Alike t s (write 0 t) → ⊥)
 no_tree s bytes = (λ e t w a. none≢some (sym e ∙ reads_alike t s w a), λ h. go (restriction s) refl h)
   where
-    go : (o : Option Tree) → restriction s ≡ o → ((t : Tree) → Within t → Alike t s (write 0 t) → ⊥) → restriction s ≡ none
-    go none e h = e
-    go (some t) e h = let back = written_reads s t bytes e in absurd (h t back.0 back.1)
+    go : (o : Option Tree) → restriction s ≡ o → ((t : Tree) → Within t → Alike t s (write 0 t) → ⊥) → restriction s ≡ None
+    go None e h = e
+    go (Some t) e h = let back = written_reads s t bytes e in absurd (h t back.0 back.1)

@@ -2,7 +2,7 @@
 use mathlib.Core.Path.{◌≡◌, refl, sym, ap, ◌∙◌}
 use mathlib.Core.Bool.{Bool, true}
 use mathlib.Core.List.{List, [], ◌∷◌, map}
-use mathlib.Core.Option.{Option, none, some}
+use Rattle.std.specs.Prelude.{Option, None, Some}
 use Prim.Native.Nat.{ℕ, ◌+◌, ◌≤◌, ◌<◌}
 use native.Mathlib.Nat.{zero-add}
 use native.Mathlib.Numerals.{add-one}
@@ -11,16 +11,14 @@ use lib.Dec.{leb}
 use lib.ListN.{length, get_or, take, drop, length-map, drop_of_length-le}
 use lib.Seq.{take_at, drop-cons, get_or-take, sets, sets-eq}
 use Rattle.lists.specs.Below.{pick}
+use Rattle.lists.specs.Options.{and_then}
 use Rattle.lists.proofs.Below.{by_test}
 use Rattle.catalogue.specs.NumberPlaces.{reading_at}
-use Rattle.catalogue.specs.declared.Reading.{Reading}
-use Rattle.catalogue.specs.declared.Reading.TheVariants.{Number, Malformed}
 use Rattle.catalogue.proofs.Inside.{reading_read}
 use Rattle.catalogue.specs.Limits.{rows_most, bytes_most}
 use Rattle.catalogue.specs.Plain.{Row}
-use Rattle.catalogue.specs.CataloguePlaces.{with_number, rows_end, row_seen, malformed, counted as check_counted, checked, places, noted}
+use Rattle.catalogue.specs.CataloguePlaces.{rows_end, row_seen, counted as check_counted, checked, row_count, places, noted}
 use Rattle.catalogue.specs.CatalogueReady.{RowAtReady}
-use Rattle.catalogue.specs.declared.Checked.{Checked}
 use Rattle.catalogue.proofs.Agree.{accepted, catalogue_agrees, rows_counted, row_stands}
 use Rattle.tree.specs.Tree.{Tree}
 use Rattle.tree.specs.TreeHolds.{held_by}
@@ -40,14 +38,14 @@ unfolding numbers_from
 left_from tree s i told h e = rw (drop-cons (places s) i 0 h, ← e, add-one)
 
 -- no check counts more rows than there may be
-pub rows_few : (s : List ℕ) → (checked s).rows ≤ rows_most
+pub rows_few : (s : List ℕ) → row_count (checked s) ≤ rows_most
 unfolding checked
 rows_few s = by_test (leb (length s) bytes_most) (λ q. rw q (go (reading_at rows_most s 0) refl)) (λ q. rw q (omega arith))
   where
-    go : (r : Reading) → reading_at rows_most s 0 ≡ r → (with_number r malformed (λ n at. check_counted n (rows_end n s at))).rows ≤ rows_most
-    go Malformed e = omega arith
-    go (Number n at) e =
-        by_test (rows_end n s at) (λ q. rw q (reading_read rows_most s 0 n at e).small) (λ q. rw q (omega arith))
+    go : (r : Option (ℕ × ℕ)) → reading_at rows_most s 0 ≡ r → row_count (and_then r (λ (n, at). check_counted n (rows_end n s at))) ≤ rows_most
+    go None e = omega arith
+    go (Some r) e =
+        by_test (rows_end r.0 s r.1) (λ q. rw q (reading_read rows_most s 0 r.0 r.1 e).small) (λ q. rw q (omega arith))
 
 -- a catalogue that was checked
 module _ (s : List ℕ) (rows : ℕ) (held : List ℕ) (n : NotedReady s rows held) where
@@ -55,10 +53,10 @@ module _ (s : List ℕ) (rows : ℕ) (held : List ℕ) (n : NotedReady s rows he
   well_formed_lem = rw n.well
 
   pub counted : length (places s) ≡ rows
-  counted = rows_counted s well_formed_lem ∙ ap (λ (c : Checked). c.rows) n.well
+  counted = rows_counted s well_formed_lem ∙ ap row_count n.well
 
   pub few : rows ≤ rows_most
-  few = omega (arith, ap (λ (c : Checked). c.rows) n.well, rows_few s)
+  few = omega (arith, ap row_count n.well, rows_few s)
 
   pub noted_at : (i : ℕ) → i < rows → get_or held i 0 ≡ get_or (places s) i 0
   noted_at i h = sym (get_or-take rows held i 0 h) ∙ ap (λ (p : List ℕ). get_or p i 0) n.noted
@@ -72,14 +70,14 @@ module _ (s : List ℕ) (rows : ℕ) (held : List ℕ) (n : NotedReady s rows he
   left_more tree i told h e = left_from tree s i told (omega (arith, counted)) (e ∙ ap (λ (at : ℕ). held_by (restriction tree) (row_seen s at)) (noted_at i h))
 
 -- what is selected: by no tree nothing, else the numbers of the rows from the first on
-none_held : (n : ℕ) (rows : List Row) → numbers_from n (held_by none) rows ≡ []
+none_held : (n : ℕ) (rows : List Row) → numbers_from n (held_by None) rows ≡ []
 unfolding numbers_from
 none_held n [] = refl
 none_held n (r ∷ rows) = none_held (n + 1) rows
 
-selected_some : (o : Option Tree) (rows : List Row) → selected_by o (some rows) ≡ numbers_from 0 (held_by o) rows
-selected_some none rows = sym (none_held 0 rows)
-selected_some (some t) rows = refl
+selected_some : (o : Option Tree) (rows : List Row) → selected_by o (Some rows) ≡ numbers_from 0 (held_by o) rows
+selected_some None rows = sym (none_held 0 rows)
+selected_some (Some t) rows = refl
 
 module _ (tree s : List ℕ) (rows : ℕ) (held : List ℕ) (n : NotedReady s rows held) where
   pub selected_is : selected tree s ≡ left tree s 0
@@ -102,20 +100,16 @@ module _ (tree s : List ℕ) (rows : ℕ) (held : List ℕ) (n : NotedReady s ro
       }
 
 -- what the check of a catalogue leaves of the array that it was lent
-pub noted_by_check : (s before after : List ℕ) (r : Checked) → r ≡ checked s → r.refusal ≡ 0 → after ≡ noted s before → rows_most ≤ length before
-    → NotedReady s r.rows after
-noted_by_check s before after r e zero_is laid room =
-    let well : checked s ≡ record { refusal = 0; rows = r.rows } = sym e ∙ with_rows r zero_is in
-    let counts = rows_counted s (rw well) ∙ ap (λ (c : Checked). c.rows) well in
+pub noted_by_check : (s before after : List ℕ) (rows : ℕ) → checked s ≡ Some rows → after ≡ noted s before → rows_most ≤ length before
+    → NotedReady s rows after
+noted_by_check s before after rows well laid room =
+    let counts = rows_counted s (rw well) ∙ ap row_count well in
     let few = rows_few s in
     record {
       well = well;
-      noted = ap (take r.rows) (laid ∙ sets-eq (places s) before 0 (omega (arith, counts, few, ap (λ (c : Checked). c.rows) well)))
-          ∙ take_at (places s) _ r.rows counts;
+      noted = ap (take rows) (laid ∙ sets-eq (places s) before 0 (omega (arith, counts, few, ap row_count well)))
+          ∙ take_at (places s) _ rows counts;
     }
-  where
-    with_rows : (c : Checked) → c.refusal ≡ 0 → c ≡ record { refusal = 0; rows = c.rows }
-    with_rows c z = rw (← z)
 
 -- any two outcomes agree
 pub outcomes_agree : {tree s before after other : List ℕ} {count another : ℕ} → Selected tree s before count after → Selected tree s before another other

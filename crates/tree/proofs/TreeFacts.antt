@@ -2,7 +2,7 @@
 -- the limits allow. Assumes nothing.
 use mathlib.Core.Path.{◌≡◌, ◌∙◌}
 use mathlib.Core.List.{List, ◌++◌}
-use mathlib.Core.Option.{none, some}
+use Rattle.std.specs.Prelude.{None, Some}
 use Prim.Native.Nat.{ℕ, ◌+◌, ◌≤◌, ◌<◌}
 use native.Mathlib.Omega.{arith}
 use borrow.Author.Tests.{eqb-true, leb-true}
@@ -24,17 +24,17 @@ use Rattle.lists.proofs.Rising.{rises_wider, rises_append, rises_between, rises}
 pub record Held (s : List ℕ) (t : Tree) : Type 0 where
   pub short : length s ≤ bytes_most
   pub left : ℕ
-  pub read : read_tree levels_most nodes_most 0 s ≡ some (record { tree = t; used = length s; nodes = left })
+  pub read : read_tree levels_most nodes_most 0 s ≡ Some (record { tree = t; used = length s; nodes = left })
 
-with_parts : (r : TreeRead) (t : Tree) (n : ℕ) → r.tree ≡ t → r.used ≡ n → some r ≡ some (record { tree = t; used = n; nodes = r.nodes })
+with_parts : (r : TreeRead) (t : Tree) (n : ℕ) → r.tree ≡ t → r.used ≡ n → Some r ≡ Some (record { tree = t; used = n; nodes = r.nodes })
 with_parts r t n a b = rw (← a, ← b)
 
-pub held : (s : List ℕ) (t : Tree) → restriction s ≡ some t → Held s t
+pub held : (s : List ℕ) (t : Tree) → restriction s ≡ Some t → Held s t
 unfolding restriction
 held s t e =
-    let i = pick_inv (leb (length s) bytes_most) _ none (some t) none≢some e in
+    let i = pick_inv (leb (length s) bytes_most) _ None (Some t) none≢some e in
     let j = then_inv (read_tree levels_most nodes_most 0 s) (whole s) t i.1 in
-    let l = pick_inv (eqb j.0.used (length s)) (some j.0.tree) none (some t) none≢some j.2 in
+    let l = pick_inv (eqb j.0.used (length s)) (Some j.0.tree) None (Some t) none≢some j.2 in
     record {
       short = leb-true (length s) bytes_most i.0;
       left = j.0.nodes;
@@ -66,7 +66,7 @@ order_passes =
     }
 
 -- the positions of the leaves rise strictly, and each is the place of a byte of the tree
-pub positions_rise : (s : List ℕ) (t : Tree) → restriction s ≡ some t
+pub positions_rise : (s : List ℕ) (t : Tree) → restriction s ≡ Some t
     → Rises (positions t) × ((i : ℕ) → i < length (positions t) → get_or (positions t) i 0 < length s)
 unfolding in_order_lem
 positions_rise s t e =
@@ -96,7 +96,7 @@ count_passes =
     }
 
 -- "Limits: 4,096 bytes, 64 nodes, 8 levels (root is 1)"
-pub within_limits : (s : List ℕ) (t : Tree) → restriction s ≡ some t → (length s ≤ bytes_most) × (nodes_of t ≤ nodes_most) × (levels_of t ≤ levels_most)
+pub within_limits : (s : List ℕ) (t : Tree) → restriction s ≡ Some t → (length s ≤ bytes_most) × (nodes_of t ≤ nodes_most) × (levels_of t ≤ levels_most)
 unfolding counted
 within_limits s t e =
     let h = held s t e in

@@ -2,7 +2,7 @@
 use mathlib.Core.Path.{◌≡◌, refl}
 use mathlib.Core.Bool.{true}
 use mathlib.Core.List.{List}
-use mathlib.Core.Option.{some}
+use Rattle.std.specs.Prelude.{Some}
 use Prim.Native.Nat.{ℕ, ◌+◌, ◌≤◌}
 use native.Mathlib.Omega.{arith}
 use lib.ListN.{length, drop}
@@ -80,7 +80,7 @@ back_passes =
       of_leaf = λ l n p s x used e bytes. leaf_back s p x used bytes e;
     }
 
-pub tree_back : (levels nodes place : ℕ) (s : List ℕ) (r : TreeRead) → Bytes s → read_tree levels nodes place s ≡ some r
+pub tree_back : (levels nodes place : ℕ) (s : List ℕ) (r : TreeRead) → Bytes s → read_tree levels nodes place s ≡ Some r
     → Stands (tree_form r.tree place) s 0 r.used × LeavesFit r.tree
 unfolding back
 tree_back levels nodes place s r bytes e = of_every_tree back back_passes levels nodes place s r e bytes

@@ -2,7 +2,7 @@
 use mathlib.Core.Path.{◌≡◌, refl}
 use mathlib.Core.Bool.{true, false}
 use mathlib.Core.List.{List}
-use mathlib.Core.Option.{some}
+use Rattle.std.specs.Prelude.{Some}
 use Prim.Native.Nat.{ℕ, zero, suc, ◌+◌, ◌≤◌, ◌<◌}
 use native.Mathlib.Omega.{arith}
 use borrow.Author.Tests.{le-leb, ne_eqb}
@@ -24,11 +24,11 @@ use Rattle.tree.proofs.LeafWritten.{leaf_there}
 -- a tree, or children, within so many levels: where they stand they are read, with their positions
 abbrev TreeThere : ℕ → Tree → Type 0
 TreeThere levels t = (nodes left place used : ℕ) (s : List ℕ) → nodes ≡ nodes_of t + left → nodes < 4294967296 → Stands (tree_form t place) s 0 used
-    → read_tree levels nodes place s ≡ some (record { tree = positioned place t; used = used; nodes = left })
+    → read_tree levels nodes place s ≡ Some (record { tree = positioned place t; used = used; nodes = left })
 
 abbrev ForestThere : ℕ → Forest → Type 0
 ForestThere levels f = (nodes left place used : ℕ) (s : List ℕ) → nodes ≡ nodes_in f + left → nodes < 4294967296 → Stands (forest_form f place) s 0 used
-    → read_list (read_tree levels) (further_ones f) nodes place s ≡ some (record { forest = positioned_in place f; used = used; nodes = left })
+    → read_list (read_tree levels) (further_ones f) nodes place s ≡ Some (record { forest = positioned_in place f; used = used; nodes = left })
 
 one_more : (n : ℕ) → 1 + n ≡ suc n
 one_more n = omega arith
@@ -67,7 +67,7 @@ children_are_nodes (further t f) = omega (arith, children_are_nodes f, a_node t)
 
 branch_there : (levels kind : ℕ) (t : Tree) (f : Forest) → is_branch kind ≡ true → kind < 4294967296 → ForestThere levels (further t f)
     → (nodes left place used : ℕ) (s : List ℕ) → nodes ≡ 1 + (nodes_of t + nodes_in f) + left → nodes < 4294967296 → Stands (branch_form kind (1 + further_ones f) (tree_form t) (forest_form f) place) s 0 used
-    → read_tree (suc levels) nodes place s ≡ some (record { tree = positioned place (pick (eqb kind 1) (and t f) (or t f)); used = used; nodes = left })
+    → read_tree (suc levels) nodes place s ≡ Some (record { tree = positioned place (pick (eqb kind 1) (and t f) (or t f)); used = used; nodes = left })
 unfolding read_tree nodes_of further_ones forest_form positioned_in le
 branch_there levels kind t f b known forest nodes left place used s n small w =
     let below = nodes_in (further t f) + left in

@@ -1,6 +1,6 @@
 -- What is written of a tree is a list of bytes, whatever its numbers are. Assumes nothing.
 use mathlib.Core.List.{List, [], ◌∷◌, ◌++◌, map}
-use mathlib.Core.Option.{Option, none, some}
+use Rattle.std.specs.Prelude.{Option, None, Some}
 use Prim.Native.Nat.{ℕ, zero, suc, ◌+◌, ◌/◌, ◌<◌}
 use native.Mathlib.Omega.{arith}
 use lib.ListN.{length}
@@ -16,8 +16,8 @@ use Rattle.tree.specs.Writer.{Form, given, word, ignored, aligned, in_order, lea
 
 -- a byte, or one that may be any
 abbrev IsByte : Option ℕ → Type 0
-IsByte none = Unit
-IsByte (some b) = b < 256
+IsByte None = Unit
+IsByte (Some b) = b < 256
 
 -- a form of such
 abbrev AllBytes : Form → Type 0
@@ -90,10 +90,10 @@ mutual
 bytes_of : (p : List (Option ℕ)) → Each IsByte p → Bytes (map written p)
 unfolding Each
 bytes_of [] h i = omega arith
-bytes_of (none ∷ p) h zero = omega arith
-bytes_of (none ∷ p) h (suc i) = bytes_of p h.1 i
-bytes_of (some b ∷ p) h zero = h.0
-bytes_of (some b ∷ p) h (suc i) = bytes_of p h.1 i
+bytes_of (None ∷ p) h zero = omega arith
+bytes_of (None ∷ p) h (suc i) = bytes_of p h.1 i
+bytes_of (Some b ∷ p) h zero = h.0
+bytes_of (Some b ∷ p) h (suc i) = bytes_of p h.1 i
 
 pub write_bytes : (place : ℕ) (t : Tree) → Bytes (write place t)
 write_bytes place t = bytes_of (tree_form t place) (tree_bytes t place)

@@ -1,9 +1,8 @@
 -- A leaf, a node or a list that can be read from the unread bytes of a tree.
 use Rattle.std.specs.Prelude.{◌≡◌, List, ℕ, ◌%◌, ◌≤◌, length}
-use Rattle.std.proofs.Math.Option.{some}
+use Rattle.std.specs.Prelude.{Some}
 use Rattle.tree.specs.Parts.{leaf_at}
 use Rattle.tree.specs.declared.Parts.{Parts}
-use Rattle.tree.specs.declared.LeafAt.TheVariants.{LeafTo}
 use Rattle.tree.specs.Limits.{bytes_most}
 use Rattle.tree.specs.Reader.{TreeRead, Read, branch_read, read_tree}
 
@@ -11,7 +10,7 @@ use Rattle.tree.specs.Reader.{TreeRead, Read, branch_read, read_tree}
 pub record LeafReady (kind : ℕ) (s : List ℕ) : Type 0 where
   pub parts : Parts
   pub used : ℕ
-  pub read : leaf_at kind s 0 ≡ LeafTo parts used
+  pub read : leaf_at kind s 0 ≡ Some (parts, used)
 
 -- a reader finds a node there, at a place that is a multiple of 4 and with some count of nodes that may still come
 pub record Found (read : Read) (s : List ℕ) : Type 0 where
@@ -20,7 +19,7 @@ pub record Found (read : Read) (s : List ℕ) : Type 0 where
   pub aligned : place % 4 ≡ 0
   pub nodes : ℕ
   pub node : TreeRead
-  pub is : read nodes place s ≡ some node
+  pub is : read nodes place s ≡ Some node
   pub inside : node.used ≤ length s
 
 -- a node of so many levels at most, and an and or an or over nodes of so many levels

@@ -1,6 +1,6 @@
 -- Which rows a leaf holds for (01, "Restriction trees").
 use Rattle.std.specs.Prelude.{Bool, false, not, List, ℕ, leb, ltb, eqb}
-use Rattle.std.proofs.Math.Option.{Option, none, some}
+use Rattle.std.specs.Prelude.{Option, None, Some}
 use Rattle.lists.specs.Below.{pick}
 use Rattle.catalogue.specs.Plain.{Row}
 use Rattle.tree.specs.Phrase.{occurs}
@@ -18,8 +18,8 @@ relation_holds relop mine yours =
 
 -- "Absent text holds no phrase"
 abbrev pub phrase_holds : ℕ → List ℕ → Option (List ℕ) → Bool
-phrase_holds method phrase none = false
-phrase_holds method phrase (some units) = occurs method phrase units
+phrase_holds method phrase None = false
+phrase_holds method phrase (Some units) = occurs method phrase units
 
 -- a leaf holds for a row: the text or the number that its property names is asked
 abbrev pub leaf_holds : Row → Leaf → Bool

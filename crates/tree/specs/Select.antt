@@ -1,7 +1,7 @@
 -- The rows that a tree selects: their numbers, counted from 0 in the catalogue's order (01, "What the base serves": "row numbers of each
 -- selection"; "Restriction trees").
 use Rattle.std.specs.Prelude.{Bool, List, [], ◌∷◌, ℕ, ◌+◌}
-use Rattle.std.proofs.Math.Option.{Option, none, some}
+use Rattle.std.specs.Prelude.{Option, None, Some}
 use Rattle.lists.specs.Below.{pick}
 use Rattle.catalogue.specs.Plain.{Row, catalogue}
 use Rattle.tree.specs.Tree.{Tree}
@@ -19,9 +19,9 @@ selection t rows = numbers_from 0 (holds t) rows
 
 -- what is selected by a list of bytes: nothing, where it holds no tree or the catalogue is malformed
 abbrev pub selected_by : Option Tree → Option (List Row) → List ℕ
-selected_by none rows = []
-selected_by (some t) none = []
-selected_by (some t) (some rows) = selection t rows
+selected_by None rows = []
+selected_by (Some t) None = []
+selected_by (Some t) (Some rows) = selection t rows
 
 abbrev pub selected : List ℕ → List ℕ → List ℕ
 selected tree s = selected_by (restriction tree) (catalogue s)

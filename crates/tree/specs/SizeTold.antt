@@ -1,6 +1,6 @@
 -- What the code says of the bytes that a node takes and of where a list ends, handed the unread bytes from their first one on.
 use Rattle.std.specs.Prelude.{◌≡◌, List, ℕ, ◌+◌, ◌%◌, ◌≤◌, length, drop}
-use Rattle.std.proofs.Math.Option.{some}
+use Rattle.std.specs.Prelude.{Some}
 use Rattle.tree.specs.Limits.{bytes_most}
 use Rattle.tree.specs.Parts.{leaf_at, with_leaf}
 use Rattle.tree.specs.Reader.{TreeRead, ForestRead, Read, read_list, read_tree}
@@ -11,7 +11,7 @@ leaf_size kind s = with_leaf (leaf_at kind s 0) 0 λ parts used. used
 
 -- the bytes of whatever node the reader finds there, at any place that is a multiple of 4
 abbrev pub Takes : Read → List ℕ → ℕ → Type 0
-Takes read s size = (place nodes : ℕ) (r : TreeRead) → place % 4 ≡ 0 → read nodes place s ≡ some r → size ≡ r.used
+Takes read s size = (place nodes : ℕ) (r : TreeRead) → place % 4 ≡ 0 → read nodes place s ≡ Some r → size ≡ r.used
 
 -- of a node of so many levels at most
 abbrev pub NodeTakes : List ℕ → ℕ → ℕ → Type 0
@@ -22,7 +22,7 @@ pub record Rest (read : Read) (s : List ℕ) (place count at last : ℕ) : Type 
   pub aligned : (place + at) % 4 ≡ 0
   pub nodes : ℕ
   pub children : ForestRead
-  pub is : read_list read count nodes (place + at) (drop at s) ≡ some children
+  pub is : read_list read count nodes (place + at) (drop at s) ≡ Some children
   pub ends : at + children.used ≡ last
 
 -- there is such a rest over nodes of so many levels at most, inside the bytes

@@ -1,7 +1,7 @@
 -- Which rows a tree holds for (01, "Restriction trees"). What a leaf says is apart from what a tree makes of it.
 use Rattle.std.specs.Prelude.{Bool, true, false, ℕ}
 use Rattle.std.proofs.Math.Bool as Truth
-use Rattle.std.proofs.Math.Option.{Option, none, some}
+use Rattle.std.specs.Prelude.{Option, None, Some}
 use Rattle.lists.specs.Below.{both, either}
 use Rattle.catalogue.specs.Plain.{Row}
 use Rattle.tree.specs.Leaf.{Leaf}
@@ -34,5 +34,5 @@ holds t row = says (tells_of row) t
 
 -- whether a row is held by a tree, if there is one
 abbrev pub held_by : Option Tree → Row → Bool
-held_by none row = false
-held_by (some t) row = holds t row
+held_by None row = false
+held_by (Some t) row = holds t row

@@ -1,7 +1,7 @@
 -- The writer of a restriction tree, the reader's other half (01, "Restriction trees"; source, 2.2.1.3, 2.2.1.7, 2.2.1.9 and 2.2.1.16):
 -- which bytes hold a tree, by its parts one after the other, and which trees are within the limits.
 use Rattle.std.specs.Prelude.{◌≡◌, true, List, [], ◌∷◌, ◌++◌, map, ℕ, ◌+◌, ◌^◌, ◌≤◌, ◌<◌, length, get_or, replicate}
-use Rattle.std.proofs.Math.Option.{Option, none, some}
+use Rattle.std.specs.Prelude.{Option, None, Some}
 use Rattle.lists.specs.Parts.{zeros}
 use Rattle.wire.specs.Word.{le}
 use Rattle.wire.specs.Padding.{padding}
@@ -18,14 +18,14 @@ abbrev pub Form : Type 0
 Form = ℕ → List (Option ℕ)
 
 abbrev pub given : List ℕ → Form
-given bytes place = map some bytes
+given bytes place = map Some bytes
 
 abbrev pub word : ℕ → Form
 word n = given (le 4 n)
 
 -- "Weight and locale are read and ignored"
 abbrev pub ignored : Form
-ignored place = replicate 4 none
+ignored place = replicate 4 None
 
 -- "Padding is zero", "such that the following field begins at an offset that is a multiple of 4"
 abbrev pub aligned : Form
@@ -72,8 +72,8 @@ unfoldable mutual
 
 -- the bytes of a tree at a place: weight 0, locale 0
 abbrev pub written : Option ℕ → ℕ
-written none = 0
-written (some b) = b
+written None = 0
+written (Some b) = b
 
 abbrev pub write : ℕ → Tree → List ℕ
 write place t = map written (tree_form t place)
@@ -137,4 +137,4 @@ pub record Within (t : Tree) : Type 0 where
 -- bytes of a tree that differ in its weights and locales alone
 pub record Alike (t : Tree) (s other : List ℕ) : Type 0 where
   pub size : length s ≡ length other
-  pub each : (i b : ℕ) → get_or (tree_form t 0) i none ≡ some b → get_or s i 0 ≡ get_or other i 0
+  pub each : (i b : ℕ) → get_or (tree_form t 0) i None ≡ Some b → get_or s i 0 ≡ get_or other i 0

@@ -69,30 +69,17 @@ pub enum Parts {
     OfRelation(Relation),
 }
 
-// A phrase on the wire: where its units begin, how many they are, and where the locale begins.
+// A phrase on the wire: where its units begin, how many they are, and where what follows it and its padding begins.
 #[derive(Clone, Copy)]
-pub enum PhraseAt {
-    PhraseTo(usize, usize, usize),
-    NoPhrase,
+pub struct PhraseAt {
+    pub start: usize,
+    pub count: usize,
+    pub next: usize,
 }
 
-// A leaf, with the bytes that it takes.
+// What is said of a node: whether it holds, and the bytes that it takes.
 #[derive(Clone, Copy)]
-pub enum LeafAt {
-    LeafTo(Parts, usize),
-    NoLeaf,
-}
-
-// A node that was read: the bytes that it takes, and how many nodes may still come.
-#[derive(Clone, Copy)]
-pub enum NodeRead {
-    Node(usize, u32),
-    NoNode,
-}
-
-// Children that were read: the bytes that they take, and how many nodes may still come.
-#[derive(Clone, Copy)]
-pub enum ListRead {
-    Children(usize, u32),
-    NoChildren,
+pub struct Verdict {
+    pub holds: bool,
+    pub used: usize,
 }

@@ -4,11 +4,11 @@
 ghost use Rattle.std.specs.Prelude.{◌≡◌, ◌≤◌, ◌^◌, ◌<◌};
 ghost use Rattle.tree.specs.Parts.{phrase_at, content_at, relation_at, leaf_at};
 
-use lists_test::{both, within};
-use tree::{Content, LeafAt, Parts, PhraseAt, Relation};
+use lists_test::within;
+use tree::{Content, Parts, PhraseAt, Relation};
 
 // The phrase that stands at an index, with the padding on both sides of it.
-fn read_phrase(unread: &[u8], place: usize, at: usize) -> PhraseAt
+fn read_phrase(unread: &[u8], place: usize, at: usize) -> Option<PhraseAt>
     requires { (place < 2 ^ 62) × (at ≤ 2 ^ 61) }
     ensures { result ≡ phrase_at unread.now place at }
 {
@@ -16,7 +16,7 @@ fn read_phrase(unread: &[u8], place: usize, at: usize) -> PhraseAt
     let size = at + before;
     let start = size + 4;
     if unread.len() < start {
-        return PhraseAt::NoPhrase;
+        return None;
     }
     let units = wire_word::word(unread, size);
     let count = units as usize;
@@ -24,87 +24,66 @@ fn read_phrase(unread: &[u8], place: usize, at: usize) -> PhraseAt
     let after = wire_padding::padding(place + end);
     let next = end + after;
     if unread.len() < next {
-        return PhraseAt::NoPhrase;
+        return None;
     }
-    let clear = both(
-        wire_padding::zero_at(unread, at, before),
-        wire_padding::zero_at(unread, end, after),
-    );
-    if both(within(1, tree::PHRASE_MOST, units), clear) {
-        return PhraseAt::PhraseTo(start, count, next);
-    }
-    PhraseAt::NoPhrase
+    let fits = within(1, tree::PHRASE_MOST, units)
+        && wire_padding::zero_at(unread, at, before)
+        && wire_padding::zero_at(unread, end, after);
+    fits.then_some(PhraseAt { start, count, next })
 }
 
-// A content leaf.
-fn read_content(unread: &[u8], place: usize) -> LeafAt
+// A content leaf, and the bytes that it takes.
+fn read_content(unread: &[u8], place: usize) -> Option<(Parts, usize)>
     requires { place < 2 ^ 62 }
     ensures { result ≡ content_at unread.now place }
 {
-    let PhraseAt::PhraseTo(start, count, locale) = read_phrase(unread, place, tree::PHRASE_FROM)
-    else {
-        return LeafAt::NoLeaf;
-    };
-    let used = locale + 8;
+    let PhraseAt { start, count, next } = read_phrase(unread, place, tree::PHRASE_FROM)?;
+    let used = next + 8;
     if unread.len() < used {
-        return LeafAt::NoLeaf;
+        return None;
     }
     let property = wire_named::property(unread, tree::CONTENT_SPEC_AT);
-    let method = wire_word::word(unread, locale + 4);
-    if both(within(wire::LABEL, wire::NOTE, property), method <= 1) {
-        return LeafAt::LeafTo(
-            Parts::OfContent(Content {
-                property,
-                start,
-                count,
-                method,
-            }),
-            used,
-        );
-    }
-    LeafAt::NoLeaf
+    let method = wire_word::word(unread, next + 4);
+    let content = Content {
+        property,
+        start,
+        count,
+        method,
+    };
+    let fits = within(wire::LABEL, wire::NOTE, property) && method <= 1;
+    fits.then_some((Parts::OfContent(content), used))
 }
 
-// A property leaf.
-fn read_relation(unread: &[u8]) -> LeafAt
+// A property leaf, and the bytes that it takes.
+fn read_relation(unread: &[u8]) -> Option<(Parts, usize)>
     ensures { result ≡ relation_at unread.now }
 {
     if unread.len() < tree::RELATION_SIZE {
-        return LeafAt::NoLeaf;
+        return None;
     }
     let relop = wire_word::word(unread, tree::RELOP_AT);
     let property = wire_named::property(unread, tree::RELATION_SPEC_AT);
-    let typed = both(
-        wire_word::half(unread, tree::VALUE_TYPE_AT) == wire_property::number_type(property),
-        wire_word::half(unread, tree::VALUE_DATA_AT) == 0,
-    );
     let value = wire_word::word(unread, tree::VALUE_AT) as u64;
-    if both(
-        both(relop <= 5, within(wire::KEY, wire::DEFAULT, property)),
-        typed,
-    ) {
-        return LeafAt::LeafTo(
-            Parts::OfRelation(Relation {
-                relop,
-                property,
-                value,
-            }),
-            tree::RELATION_SIZE,
-        );
-    }
-    LeafAt::NoLeaf
+    let relation = Relation {
+        relop,
+        property,
+        value,
+    };
+    let fits = relop <= 5
+        && within(wire::KEY, wire::DEFAULT, property)
+        && wire_word::half(unread, tree::VALUE_TYPE_AT) == wire_property::number_type(property)
+        && wire_word::half(unread, tree::VALUE_DATA_AT) == 0;
+    fits.then_some((Parts::OfRelation(relation), tree::RELATION_SIZE))
 }
 
-// The leaf of a kind.
-pub fn read_leaf(kind: u32, unread: &[u8], place: usize) -> LeafAt
+// The leaf of a kind, and the bytes that it takes.
+pub fn read_leaf(kind: u32, unread: &[u8], place: usize) -> Option<(Parts, usize)>
     requires { place < 2 ^ 62 }
     ensures { result ≡ leaf_at kind unread.now place }
 {
-    if kind == tree::CONTENT {
-        return read_content(unread, place);
+    match kind {
+        tree::CONTENT => read_content(unread, place),
+        tree::PROPERTY => read_relation(unread),
+        _ => None,
     }
-    if kind == tree::PROPERTY {
-        return read_relation(unread);
-    }
-    LeafAt::NoLeaf
 }

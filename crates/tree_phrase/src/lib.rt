@@ -31,10 +31,7 @@ fn starts_word(text: &[u8], place: usize) -> bool
     requires { place ≤ length (halves text.now) }
     ensures { result ≡ starts_word (halves text.now) place }
 {
-    if place == 0 {
-        return true;
-    }
-    unit(text, place - 1) == SPACE
+    place == 0 || unit(text, place - 1) == SPACE
 }
 
 // Whether a place is the text's end or has a space.
@@ -42,10 +39,7 @@ fn ends_word(text: &[u8], place: usize) -> bool
     requires { place ≤ length (halves text.now) }
     ensures { result ≡ ends_word (halves text.now) place }
 {
-    if place == count(text) {
-        return true;
-    }
-    unit(text, place) == SPACE
+    place == count(text) || unit(text, place) == SPACE
 }
 
 // Whether the phrase occurs in the text. Each place where a word starts is tried, and the units of the phrase one by one:
@@ -55,24 +49,19 @@ pub fn occurs(text: &[u8], phrase: &[u8], method: u32) -> bool
 {
     let units = count(text);
     let size = count(phrase);
-    let mut next = 0;
-    'places: while next + size <= units {
-        let place = next;
-        next += 1;
+    if units < size {
+        return false;
+    }
+    'places: for place in 0..units - size + 1 {
         if !starts_word(text, place) {
             continue 'places;
         }
-        let mut i = 0;
-        while i < size {
+        for i in 0..size {
             if unit(phrase, i) != unit(text, place + i) {
                 continue 'places;
             }
-            i += 1;
         }
-        if method != EXACT {
-            return true;
-        }
-        if ends_word(text, place + size) {
+        if method != EXACT || ends_word(text, place + size) {
             return true;
         }
     }

@@ -4,8 +4,6 @@
 ghost use Rattle.std.specs.Prelude.{◌≡◌};
 ghost use Rattle.tree.specs.Reader.{restriction, is_tree};
 
-use tree::NodeRead;
-
 // Whether the bytes hold a tree.
 pub fn well_formed(bytes: &[u8]) -> bool
     ensures { result ≡ is_tree (restriction bytes.now) }
@@ -14,7 +12,7 @@ pub fn well_formed(bytes: &[u8]) -> bool
         return false;
     }
     match tree_node::node(bytes, 0, tree::LEVELS_MOST, tree::NODES_MOST) {
-        NodeRead::Node(used, _) => used == bytes.len(),
-        NodeRead::NoNode => false,
+        Some((used, _)) => used == bytes.len(),
+        None => false,
     }
 }

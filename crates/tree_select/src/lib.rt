@@ -43,16 +43,13 @@ pub fn select(
     ensures { Selected tree.now catalogue.now into.old result into.new }
 {
     let mut count: u32 = 0;
-    let mut next: u32 = 0;
-    while next < rows {
-        let row = Row(next);
-        next += 1;
+    for number in 0..rows {
+        let row = Row(number);
         let place = place_of(places, row);
-        if !holds_at(tree, catalogue, place) {
-            continue;
+        if holds_at(tree, catalogue, place) {
+            into[count as usize] = row.0;
+            count += 1;
         }
-        into[count as usize] = row.0;
-        count += 1;
     }
     count
 }

@@ -15,9 +15,10 @@ fn leaf_size(kind: u32, unread: &[u8]) -> usize
         let count = wire_word::word(unread, tree::PHRASE_FROM) as usize;
         let end = tree::PHRASE_FROM + 4 + 2 * count;
         let locale = end + wire_padding::padding(end);
-        return locale + 8;
+        locale + 8
+    } else {
+        tree::RELATION_SIZE
     }
-    tree::RELATION_SIZE
 }
 
 // One node. The unread bytes are handed on to its children.
@@ -30,14 +31,14 @@ pub fn node_size(unread: &[u8], levels: u32) -> usize
     let below = levels - 1;
     if tree_node::is_branch(kind) {
         let count = wire_word::word(unread, tree::HEAD_SIZE);
-        return list_end(unread, count, tree::LIST_HEAD, below);
-    }
-    if kind == tree::NOT {
+        list_end(unread, count, tree::LIST_HEAD, below)
+    } else if kind == tree::NOT {
         let child = &unread[tree::HEAD_SIZE..];
         let size = node_size(child, below);
-        return tree::HEAD_SIZE + size;
+        tree::HEAD_SIZE + size
+    } else {
+        leaf_size(kind, unread)
     }
-    leaf_size(kind, unread)
 }
 
 // Where the rest of a list ends: so many children from a place on. Most are property leaves, which take no call.
@@ -46,16 +47,13 @@ pub fn list_end(unread: &[u8], count: u32, from: usize, levels: u32) -> usize
     requires { RestReady unread.now levels count from }
     ensures { RestEnds unread.now levels count from result }
 {
-    let mut left = count;
     let mut at = from;
-    while 0 < left {
-        left -= 1;
-        if wire_word::word(unread, at) == tree::PROPERTY {
-            at += tree::RELATION_SIZE;
-            continue;
-        }
-        let child = &unread[at..];
-        let size = node_size(child, levels);
+    for measured in 0..count {
+        let size = if wire_word::word(unread, at) == tree::PROPERTY {
+            tree::RELATION_SIZE
+        } else {
+            node_size(&unread[at..], levels)
+        };
         at += size;
     }
     at

@@ -8,6 +8,7 @@ use native.Mathlib.Omega.{arith}
 use lib.ListN.{length, get_or, take, drop, length-append, length-take, length-drop, drop_of_length-le, get_or-append}
 use borrow.Author.Tests.{ltb-true, ltb-false}
 use lib.Dec.{ltb}
+use borrow.Rule.Slice.PartMut.{put_mid}
 use lib.Seq.{sets, sets-eq, paste, ext_get_or, take_at, drop_at, take_all, get_or-take, get_or-drop, get_or-append-add, length-take-le, drop-append-add, drop-drop, take-add}
 use Rattle.lists.proofs.Below.{by_test}
 use Rattle.wire.specs.Laid.{lay}
@@ -21,6 +22,11 @@ stores t at b h = sets-eq b t at h ∙ append_assoc (take at t) b (drop (at + le
 pub copied : (t : List ℕ) (at : ℕ) (b : List ℕ) (n : ℕ) → n ≡ length b → paste t at b n ≡ lay t at b
 unfolding lay
 copied t at b n e = rw (e, take_all (length b) b (omega arith)) (append_assoc (take at t) b (drop (at + length b) t))
+
+-- what a part of a slice is after other bytes were put there
+pub put_laid : (t : List ℕ) (at n : ℕ) (b : List ℕ) → n ≡ length b → put_mid at n t b ≡ lay t at b
+unfolding lay
+put_laid t at n b e = ap (λ (u : List ℕ). take at t ++ (b ++ u)) (drop-drop n at t ∙ ap (λ (k : ℕ). drop (at + k) t) e)
 
 module _ (t : List ℕ) (at : ℕ) (b : List ℕ) (inside : at + length b ≤ length t) where
   pub lay_length : length (lay t at b) ≡ length t

@@ -3,20 +3,6 @@
 // and "Restriction trees" what properties and padding are). Definitions, laws, types and constants; no function.
 #![tactic(auto)]
 
-// A place after padding.
-#[derive(Clone, Copy)]
-pub enum PlaceRead {
-    Place(usize),
-    Malformed,
-}
-
-// A number with the place after it.
-#[derive(Clone, Copy)]
-pub enum NumberRead {
-    Number(u32, usize),
-    Malformed,
-}
-
 // The header of a message, the most bytes that a message and its reply have, and the place of _hCursor, the first word of every
 // body that has one.
 pub const HEADER_SIZE: usize = 16;
@@ -39,7 +25,9 @@ pub const SET_BINDINGS: u32 = 0xD0;
 // A full property: the set identifier, ulKind, and PrSpec, the number of a numbered property.
 pub const SET_SIZE: usize = 16;
 
-pub const SET_FIRST: usize = 0x10;
+pub const SET: [u8; SET_SIZE] = [
+    0x10, 0x11, 0x12, 0x13, 0x14, 0x15, 0x16, 0x17, 0x18, 0x19, 0x1a, 0x1b, 0x1c, 0x1d, 0x1e, 0x1f,
+];
 
 pub const KIND_AT: usize = SET_SIZE;
 

@@ -12,41 +12,32 @@ fn body_sum(body: &[u8]) -> u64
     requires { length body.now ≤ message_most }
     ensures { result ≡ body_sum body.now }
 {
-    let whole = body.len() / 4;
-    let mut sum: u64 = 0;
-    let mut k = 0;
-    while k < whole {
-        let w = wire_word::word(body, 4 * k) as u64;
-        sum += w;
-        k += 1;
+    let (words, rest): (&[[u8; 4]], &[u8]) = body.as_chunks();
+    let mut sum = 0;
+    for word in words {
+        sum += u64::from(u32::from_le_bytes(*word));
     }
-    if 4 * k == body.len() {
-        return sum;
-    }
-    sum + (wire_word::last_word(body, 4 * k) as u64)
+    sum + u64::from(wire_word::last_word(rest, 0))
 }
 
 // The checksum of a message that has a header.
-fn checksum_of(message: &[u8]) -> u64
+fn checksum_of(message: &[u8]) -> u32
     requires { (header_size ≤ length message.now) × (length message.now ≤ message_most) }
     ensures { result ≡ checksum message.now }
 {
     let sum = body_sum(&message[wire::HEADER_SIZE..]);
-    let low = (sum % 0x1_0000_0000) as u32;
-    let mixed = (low ^ 0x5953_3959) as u64;
-    let number = wire_word::word(message, 0) as u64;
-    (mixed + 0x1_0000_0000 - number) % 0x1_0000_0000
+    let mixed = (sum % 0x1_0000_0000) as u32 ^ 0x5953_3959;
+    let number = wire_word::word(message, 0);
+    mixed.wrapping_sub(number)
 }
 
 // The checksum, or 4,294,967,296 for a message of a size that refusal 5 names.
 pub fn checksum(message: &[u8]) -> u64
     ensures { result ≡ checksum_told message.now }
 {
-    if message.len() < wire::HEADER_SIZE {
-        return NO_CHECKSUM;
+    if (wire::HEADER_SIZE..=wire::MESSAGE_MOST).contains(&message.len()) {
+        u64::from(checksum_of(message))
+    } else {
+        NO_CHECKSUM
     }
-    if wire::MESSAGE_MOST < message.len() {
-        return NO_CHECKSUM;
-    }
-    checksum_of(message)
 }

@@ -10,10 +10,8 @@ fn lay_few(reply: &mut [u8], at: usize, bytes: &[u8])
     requires { at + length bytes.now ≤ length reply.old }
     ensures { reply.new ≡ lay reply.old at bytes.now }
 {
-    let mut i = 0;
-    while i < bytes.len() {
-        reply[at + i] = bytes[i];
-        i += 1;
+    for (i, byte) in bytes.iter().enumerate() {
+        reply[at + i] = *byte;
     }
 }
 
@@ -60,13 +58,11 @@ pub fn lay_bytes(reply: &mut [u8], at: usize, bytes: &[u8])
 {
     if bytes.len() < 16 {
         lay_few(reply, at, bytes);
-        return;
-    }
-    if bytes.len() <= 32 {
+    } else if bytes.len() <= 32 {
         let last = bytes.len() - 16;
         lay_sixteen(reply, at, bytes, 0);
         lay_sixteen(reply, at + last, bytes, last);
-        return;
+    } else {
+        lay_many(reply, at, bytes);
     }
-    lay_many(reply, at, bytes);
 }

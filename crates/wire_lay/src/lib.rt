@@ -17,9 +17,5 @@ pub fn clear_first(reply: &mut [u8], size: usize)
     requires { size ≤ length reply.old }
     ensures { reply.new ≡ cleared size reply.old }
 {
-    let mut i = 0;
-    while i < size {
-        reply[i] = 0;
-        i += 1;
-    }
+    reply[..size].fill(0);
 }

@@ -9,14 +9,7 @@ fn set_ours(bytes: &[u8], at: usize) -> bool
     requires { at + set_size ≤ length bytes.now }
     ensures { result ≡ set_ours bytes.now at }
 {
-    let mut i = 0;
-    while i < wire::SET_SIZE {
-        if bytes[at + i] as usize != wire::SET_FIRST + i {
-            return false;
-        }
-        i += 1;
-    }
-    true
+    bytes[at..].starts_with(&wire::SET)
 }
 
 // The number of the property that is named at a place, 0 where it is of another set.
@@ -25,9 +18,10 @@ pub fn named(bytes: &[u8], at: usize) -> u32
     ensures { result ≡ named bytes.now at }
 {
     if set_ours(bytes, at) {
-        return wire_word::word(bytes, at + wire::PR_SPEC_AT);
+        wire_word::word(bytes, at + wire::PR_SPEC_AT)
+    } else {
+        0
     }
-    0
 }
 
 // The property of a leaf, 0 where it is not one of ours.
@@ -36,7 +30,8 @@ pub fn property(bytes: &[u8], at: usize) -> u32
     ensures { result ≡ property_at bytes.now at }
 {
     if wire_word::word(bytes, at + wire::KIND_AT) == wire::NUMBERED {
-        return named(bytes, at);
+        named(bytes, at)
+    } else {
+        0
     }
-    0
 }

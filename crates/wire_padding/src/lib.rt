@@ -16,7 +16,7 @@ pub fn padding_to(unit: usize, place: usize) -> usize
 pub fn padding(place: usize) -> usize
     ensures { result ≡ padding 4 place }
 {
-    (4 - place % 4) % 4
+    padding_to(4, place)
 }
 
 // Whether so many bytes from a place on are zero.
@@ -24,12 +24,5 @@ pub fn zero_at(bytes: &[u8], at: usize, count: usize) -> bool
     requires { at + count ≤ length bytes.now }
     ensures { result ≡ zero_at bytes.now at count }
 {
-    let mut i = 0;
-    while i < count {
-        if bytes[at + i] != 0 {
-            return false;
-        }
-        i += 1;
-    }
-    true
+    bytes[at..at + count].iter().all(|byte| *byte == 0)
 }

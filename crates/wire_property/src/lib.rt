@@ -23,13 +23,10 @@ pub fn cell_size(property: u32, vtype: u32) -> u32
     ensures { result ≡ cell_size property vtype }
 {
     if vtype == wire::VARIANT_TYPE {
-        return wire::VARIANT_SIZE;
+        wire::VARIANT_SIZE
+    } else if (wire::KEY..=wire::DEFAULT).contains(&property) && vtype == number_type(property) {
+        number_size(property)
+    } else {
+        0
     }
-    if lists_test::within(wire::KEY, wire::DEFAULT, property) {
-        if vtype == number_type(property) {
-            return number_size(property);
-        }
-        return 0;
-    }
-    0
 }

@@ -1,57 +1,49 @@
 -- `call_judge::judge` meets its contract: each answer is the first cause that applies, by the tests that led to it. Assumes nothing.
-use mathlib.Core.Path.{refl, sym, ap, ◌∙◌}
-use Prim.Native.Nat.{ℕ}
-use Rattle.catalogue.specs.declared.Checked.{Checked}
+use Rattle.std.proofs.Common.{arith, ◌≡◌, refl, sym, ap, ◌∙◌, ℕ}
+use Rattle.catalogue.specs.Plain.{refusal_of}
+use Rattle.catalogue.specs.CataloguePlaces.{row_count}
+use Rattle.refusal.specs.declared.Refusal.TheVariants.{SeatAbove, TableMalformed, CatalogueMalformed}
 use Rattle.table.specs.Well.{table_below}
-use Rattle.call.proofs.Causes.{seat_refused, table_refused, rows_refused, none_refused, rows_hold_lem, no_rows, judged_is}
+use Rattle.call.proofs.Causes.{seat_refused, table_refused, rows_refused, none_refused, rows_hold_lem, no_rows, judged_refused, judged_passed}
 use Rattle.call_judge.proofs.judge.Goals as goal
 
 pub returns-then-seat-gt-SEAT_MOST : goal.returns-then-seat-gt-SEAT_MOST
 returns-then-seat-gt-SEAT_MOST c =
     let a = c.args in
-    rw c.refused.ensures
-    (judged_is a.table.now a.bytes.now a.seat.0 1 0 _ _ (seat_refused a.bytes.now a.table.now a.seat.0 c.if-seat-gt-SEAT_MOST.true) refl refl)
+    judged_refused a.table.now a.bytes.now a.seat.0 SeatAbove _ _ (seat_refused a.bytes.now a.table.now a.seat.0 c.if-seat-gt-SEAT_MOST.true) refl
 
 pub returns-then-not-well : goal.returns-then-not-well
 returns-then-not-well c =
     let a = c.args in
-    rw c.refused-then-not-well.ensures
-    (judged_is a.table.now a.bytes.now a.seat.0 2 0 _ _
+    judged_refused a.table.now a.bytes.now a.seat.0 TableMalformed _ _
     (table_refused a.bytes.now a.table.now a.seat.0 c.if-seat-gt-SEAT_MOST.false (sym c.well.ensures ∙ c.if-not-well.true))
     refl
-    refl)
 
-pub returns-then-refusal-ne0 : goal.returns-then-refusal-ne0
-returns-then-refusal-ne0 c =
+pub returns-in_default : goal.returns-in_default
+returns-in_default c =
     let a = c.args in
-    rw c.refused-then-refusal-ne0.ensures
-    (judged_is a.table.now a.bytes.now a.seat.0 3 0 _ _
+    judged_refused a.table.now a.bytes.now a.seat.0 CatalogueMalformed _ _
     (rows_refused a.bytes.now a.table.now a.seat.0 c.if-seat-gt-SEAT_MOST.false (sym c.well.ensures ∙ c.if-not-well.false)
-    (no_rows a.bytes.now a.table.now (λ e. c.if-refusal-ne0.true (ap (λ (k : Checked). k.refusal) c.check-checked.ensures.answered ∙ e))))
-    refl
-    c.check-checked.ensures.placed)
+    (no_rows a.bytes.now a.table.now (λ e. let z : 3 ≡ 0 = ap refusal_of c.in_default.ensures.answered ∙ e in omega arith)))
+    c.in_default.ensures.placed
 
-pub returns-then-not-below : goal.returns-then-not-below
-returns-then-not-below c =
+pub returns-else-below : goal.returns-else-below
+returns-else-below c =
     let a = c.args in
-    rw c.refused-then-not-below.ensures
-    (judged_is a.table.now a.bytes.now a.seat.0 3 0 _ _
+    judged_refused a.table.now a.bytes.now a.seat.0 CatalogueMalformed _ _
     (rows_refused a.bytes.now a.table.now a.seat.0 c.if-seat-gt-SEAT_MOST.false (sym c.well.ensures ∙ c.if-not-well.false)
-    (rows_hold_lem a.bytes.now a.table.now (sym (ap (λ (k : Checked). k.refusal) c.check-checked.ensures.answered) ∙ c.if-refusal-ne0.false)
-    ∙ ap (λ (n : ℕ). table_below n a.table.now) (sym (ap (λ (k : Checked). k.rows) c.check-checked.ensures.answered))
-    ∙ sym c.below.ensures
-    ∙ c.if-not-below.true))
-    refl
-    c.check-checked.ensures.placed)
+    (rows_hold_lem a.bytes.now a.table.now (sym (ap refusal_of c.in-Some.ensures.answered))
+    ∙ ap (λ (n : ℕ). table_below n a.table.now) (sym (ap row_count c.in-Some.ensures.answered))
+    ∙ sym c.if-below.ensures))
+    c.in-Some.ensures.placed
 
-pub returns : goal.returns
-returns c =
+pub returns-then-below : goal.returns-then-below
+returns-then-below c =
     let a = c.args in
-    judged_is a.table.now a.bytes.now a.seat.0 0 _ _ _
+    judged_passed a.table.now a.bytes.now a.seat.0 _ _ _
     (none_refused a.bytes.now a.table.now a.seat.0 c.if-seat-gt-SEAT_MOST.false (sym c.well.ensures ∙ c.if-not-well.false)
-    (rows_hold_lem a.bytes.now a.table.now (sym (ap (λ (k : Checked). k.refusal) c.check-checked.ensures.answered) ∙ c.if-refusal-ne0.false)
-    ∙ ap (λ (n : ℕ). table_below n a.table.now) (sym (ap (λ (k : Checked). k.rows) c.check-checked.ensures.answered))
-    ∙ sym c.below.ensures
-    ∙ c.if-not-below.false))
-    (ap (λ (k : Checked). k.rows) c.check-checked.ensures.answered)
-    c.check-checked.ensures.placed
+    (rows_hold_lem a.bytes.now a.table.now (sym (ap refusal_of c.in-Some.ensures.answered))
+    ∙ ap (λ (n : ℕ). table_below n a.table.now) (sym (ap row_count c.in-Some.ensures.answered))
+    ∙ sym c.if-below.ensures))
+    (ap row_count c.in-Some.ensures.answered)
+    c.in-Some.ensures.placed

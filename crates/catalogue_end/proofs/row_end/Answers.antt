@@ -1,35 +1,31 @@
 -- `catalogue_end::row_end` meets its contract. The loop's invariant: the row ends where the texts that are left end. Assumes nothing.
-use borrow.Author.Rules.{rules}
-use mathlib.Core.Path.{sym, ◌∙◌}
-use Rattle.catalogue.proofs.EndLaws.{texts_gone, texts_more, texts_none, row_texts, row_numberless}
+use Rattle.std.proofs.Common.{arith, sym, ◌∙◌, ◌+◌, ◌-◌}
+use Rattle.catalogue.proofs.EndLaws.{row_ends, texts_more, texts_none}
 use Rattle.catalogue_end.proofs.row_end.Goals as goal
 
-pub returns-then-place-eq0 : goal.returns-then-place-eq0
-returns-then-place-eq0 c =
-    let a = c.args in
-    sym (row_numberless a.catalogue.now a.at (sym c.numbers_end-place.ensures ∙ c.if-place-eq0.true))
+pub returns-in_err-place : goal.returns-in_err-place
+returns-in_err-place c = rw (c.from_residual.ensures, row_ends c.args.catalogue.now c.args.at, sym c.in_err-place.ensures)
 
-pub loop-left-init : goal.loop-left-init
-loop-left-init c =
-    let a = c.args in
-    let numbers = c.numbers_end-place in
-    row_texts a.catalogue.now a.at numbers.result numbers.ensures c.if-place-eq0.false
+pub loop-init : goal.loop-init
+loop-init c = rw (row_ends c.args.catalogue.now c.args.at, sym c.in_ok-place.ensures)
 
-pub returns-then-place-eq0-2 : goal.returns-then-place-eq0-2
-returns-then-place-eq0-2 c =
-    let l = c.loop-left in
-    let s = c.args.catalogue.now in
-    sym (l.invariant ∙ texts_gone l.left s l.place (search rules) (sym c.text_end-place.ensures ∙ c.if-place-eq0-2.true))
+pub returns-in_err-place-2 : goal.returns-in_err-place-2
+returns-in_err-place-2 c =
+    let l = c.loop in
+    rw c.from_residual-in_err-place-2.ensures
+    (sym
+    (l.invariant
+    ∙ texts_more (2 - l.counter) (2 - (l.counter + 1)) c.args.catalogue.now l.place (omega arith)
+    ∙ rw (sym c.in_err-place-2.ensures)))
 
-pub loop-left-preserved : goal.loop-left-preserved
-loop-left-preserved c =
-    let l = c.loop-left in
-    let s = c.args.catalogue.now in
-    let text = c.text_end-place in
-    l.invariant ∙ texts_more l.left s l.place (search rules) text.result text.ensures c.if-place-eq0-2.false
+pub loop-preserved : goal.loop-preserved
+loop-preserved c =
+    let l = c.loop in
+    l.invariant
+    ∙ texts_more (2 - l.counter) (2 - (l.counter + 1)) c.args.catalogue.now l.place (omega arith)
+    ∙ rw (sym c.in_ok-place-2.ensures)
 
 pub returns : goal.returns
 returns c =
-    let l = c.loop-left in
-    let s = c.args.catalogue.now in
-    sym (l.invariant ∙ texts_none l.left s l.place (search rules))
+    let l = c.loop in
+    sym (l.invariant ∙ texts_none (2 - l.counter) c.args.catalogue.now l.place (omega arith))

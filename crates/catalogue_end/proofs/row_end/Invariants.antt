@@ -1,9 +1,6 @@
-use mathlib.Core.Path.{◌≡◌}
-use Rattle.catalogue.specs.CataloguePlaces.{row_at, row_end, texts_end}
+use Rattle.std.proofs.Common.{◌≡◌, ◌-◌}
+use Rattle.catalogue.specs.CataloguePlaces.{row_at, end_of, texts_end}
 use Rattle.catalogue_end.proofs.row_end.Given as goal
 
-abbrev pub invariant-loop-left : goal.invariant-loop-left
-invariant-loop-left l = row_end (row_at l.catalogue l.at) ≡ texts_end l.left l.catalogue l.place
-
-abbrev pub decreases-loop-left : goal.decreases-loop-left
-decreases-loop-left l = l.left
+abbrev pub invariant-loop : goal.invariant-loop
+invariant-loop l = end_of (row_at l.catalogue l.at) ≡ texts_end (2 - l.counter) l.catalogue l.place

@@ -1,6 +1,6 @@
 use mathlib.Core.Path.{◌≡◌}
-use Prim.Native.Nat.{◌+◌, ◌*◌, ◌-◌, ◌≤◌}
-use lib.ListN.{length, drop}
+use Prim.Native.Nat.{◌+◌, ◌*◌, ◌≤◌}
+use lib.ListN.{drop}
 use Rattle.catalogue.specs.Groups.{groups, further, within}
 use Rattle.catalogue.specs.NumberPlaces.{placed}
 use Rattle.catalogue.proofs.Carry.{carry}
@@ -8,6 +8,3 @@ use Rattle.catalogue_number.proofs.read_further.Given as goal
 
 abbrev pub invariant-loop-i : goal.invariant-loop-i
 invariant-loop-i l = (1 ≤ l.room) × (l.value + l.weight * l.room ≤ l.limit) × (placed l.at (within l.limit (further l.low (groups (drop (l.at + 1) l.catalogue)))) ≡ carry l.value l.weight l.room l.i (groups (drop l.i l.catalogue)))
-
-abbrev pub decreases-loop-i : goal.decreases-loop-i
-decreases-loop-i l = length l.catalogue - l.i

@@ -20,3 +20,6 @@ bounds-catalogue-at-2 c =
 pub returns-then-second-lt128 : goal.returns-then-second-lt128
 returns-then-second-lt128 c =
     two_standing c.args.limit c.args.catalogue.now c.args.at c.requires (search rules) c.if-second-lt128.true
+
+pub unwrap-requires : goal.unwrap-requires
+unwrap-requires c = rw (c.read.ensures, c.requires.2) (search rules)

@@ -1,12 +1,6 @@
-use mathlib.Core.Path.{◌≡◌}
-use mathlib.Core.Bool.{true}
-use Prim.Native.Nat.{◌+◌, ◌≤◌, ◌-◌, ◌/◌}
-use lib.ListN.{length}
+use Rattle.std.proofs.Common.{◌≡◌, ◌*◌, true}
 use Rattle.catalogue.proofs.TextLaws.{clear_below}
 use Rattle.catalogue_units.proofs.many_clear.Given as goal
 
-abbrev pub invariant-loop-i : goal.invariant-loop-i
-invariant-loop-i l = (l.i ≤ l.last + 32) × (l.last + 32 ≡ length l.units / 2) × (clear_below l.units l.i ≡ true)
-
-abbrev pub decreases-loop-i : goal.decreases-loop-i
-decreases-loop-i l = l.last + 32 - l.i
+abbrev pub invariant-loop-block : goal.invariant-loop-block
+invariant-loop-block l = clear_below l.units (32 * l.block) ≡ true

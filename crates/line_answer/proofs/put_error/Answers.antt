@@ -12,20 +12,20 @@ put-text-requires c =
     let first = room_after c.args.line 14 (error_name ++ space) one.ensures (omega (arith, c.requires)) one.auto.out in
     omega (arith, first)
 
-pub put_reason-end-requires : goal.put_reason-end-requires
-put_reason-end-requires c =
+pub put-end-requires : goal.put-end-requires
+put-end-requires c =
     let one = c.put_number-space in
     let first = room_after c.args.line 14 (error_name ++ space) one.ensures (omega (arith, c.requires)) one.auto.out in
     let two = c.put-text in
-    omega (arith, first, two.ensures.next, two.auto.out)
+    omega (arith, first, two.ensures.next, two.auto.out, c.words.ensures.1)
 
 pub put-requires : goal.put-requires
 put-requires c =
     let one = c.put_number-space in
     let first = room_after c.args.line 14 (error_name ++ space) one.ensures (omega (arith, c.requires)) one.auto.out in
     let two = c.put-text in
-    let three = c.put_reason-end in
-    omega (arith, first, two.ensures.next, two.auto.out, three.ensures.next, three.auto.out, reason_short c.args.reason)
+    let three = c.put-end in
+    omega (arith, first, two.ensures.next, two.auto.out, three.ensures.next, three.auto.out, c.words.ensures.1)
 
 pub returns : goal.returns
 unfolding error_text
@@ -33,9 +33,9 @@ returns c =
     let one = c.put_number-space in
     let first = room_after c.args.line 14 (error_name ++ space) one.ensures (omega (arith, c.requires)) one.auto.out in
     let two = c.put-text in
-    let three = c.put_reason-end in
+    let three = c.put-end in
     put_then one.ensures
     (put_then two.ensures
-    (put_then three.ensures c.put.ensures (omega (arith, first, two.ensures.next, two.auto.out, three.ensures.next, reason_short c.args.reason)))
+    (put_then (rw c.words.ensures.0 at three.ensures) c.put.ensures (omega (arith, first, two.ensures.next, two.auto.out, three.ensures.next, reason_short c.args.reason)))
     (omega (arith, first, two.ensures.next)))
     (omega (arith, first, one.auto.out))

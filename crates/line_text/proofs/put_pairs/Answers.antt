@@ -2,7 +2,7 @@
 use mathlib.Core.Path.{◌≡◌, sym, ◌∙◌}
 use Prim.Native.Nat.{◌+◌, ◌*◌}
 use native.Mathlib.Omega.{arith}
-use lib.ListN.{get_or, length-set}
+use lib.ListN.{get_or}
 use Rattle.wire.proofs.Lay.{copied}
 use Rattle.line.specs.Text.{hex_pairs}
 use Rattle.line.proofs.TextLaws.{pairs_length, pair_high, pair_low, pasted_two}
@@ -16,7 +16,7 @@ loop-i-preserved c =
     let high : c.digit.result ≡ get_or h (2 * l.i) 0 = c.digit.ensures ∙ sym (pair_high a.bytes.now l.i (omega arith)) in
     let low : c.digit-in-loop-i.result ≡ get_or h (2 * l.i + 1) 0 = c.digit-in-loop-i.ensures ∙ sym (pair_low a.bytes.now l.i (omega arith)) in
     let next : 2 * (l.i + 1) ≡ 2 * l.i + 2 = omega arith in
-    (omega arith, simp length-set l.invariant.1, rw (l.invariant.2, high, low, next) (pasted_two a.out.now h a.at (2 * l.i) (omega arith) (omega (arith, pairs_length a.bytes.now))))
+    rw (l.invariant, high, low, next) (pasted_two a.out.now h a.at (2 * l.i) (omega arith) (omega (arith, pairs_length a.bytes.now)))
 
 pub returns : goal.returns
 returns c =
@@ -25,5 +25,5 @@ returns c =
     let h = hex_pairs a.bytes.now in
     record {
       next = omega (arith, pairs_length a.bytes.now);
-      laid = l.invariant.2 ∙ copied a.out.now a.at h (2 * l.i) (omega (arith, pairs_length a.bytes.now));
+      laid = l.invariant ∙ copied a.out.now a.at h (2 * l.i) (omega (arith, pairs_length a.bytes.now));
     }

@@ -1,23 +1,18 @@
--- What was found so far or is found in what is left is the answer. Assumes nothing.
-use mathlib.Core.Path.{sym, ◌∙◌}
-use native.Mathlib.Omega.{arith}
-use lib.ListN.{drop}
+-- What was found so far is whether a byte so far changed. Assumes nothing.
+use Rattle.std.proofs.Common.{arith, rules, tests, ◌≡◌, ◌∙◌, refl, drop, length}
+use Rattle.std.proofs.lemmas.Iterator.{YieldsList-from_slice}
+use Rattle.std.proofs.lemmas.Slice.{between_to_end}
+use Rattle.std.proofs.lemmas.Fn.{fold_over, fronts}
 use Rattle.line.specs.Text.{changed}
-use Rattle.line.proofs.TextLaws.{changed_here, changed_later, changed_never, found_now, found_only}
+use Rattle.line.proofs.TextLaws.{changed_snoc, drop_past}
 use Rattle.line_text.proofs.spilled.Goals as goal
-use Rattle.line_text.proofs.spilled.Goals.{then-reply-i, else-reply-i}
-
-pub loop-i-preserved : goal.loop-i-preserved
-loop-i-preserved c =
-    let l = c.loop-i in
-    let s = c.args.reply.now in
-    elim c.if-reply-i.branch [
-      | then-reply-i w ↦ rw w.found-is (sym (found_now l.found (changed (drop l.i s)) (changed_here s l.i (omega arith) w.if-reply-i.true)) ∙ l.invariant)
-      | else-reply-i w ↦ rw (w.found-is, ← changed_later s l.i (omega arith) w.if-reply-i.false) l.invariant
-    ]
 
 pub returns : goal.returns
+unfolding changed
 returns c =
-    let l = c.loop-i in
     let s = c.args.reply.now in
-    sym (found_only l.found (changed (drop l.i s)) (changed_never s l.i (omega arith))) ∙ l.invariant
+    let from : c.iter.result.rest.now ≡ drop c.args.count s =
+    c.iter.ensures.rest ∙ between_to_end s c.min.result (length s) (omega arith) ∙ drop_past s c.args.count c.min.result (omega arith) in
+    fold_over fronts (λ y. y.now) _ (λ ys found. found ≡ changed ys) _
+    (λ ys a x b f j k. let more = changed_snoc ys x.now in search (rules, tests))
+    c.iter.result (drop c.args.count s) _ _ (YieldsList-from_slice (drop c.args.count s) from).runs refl c.fold.ensures.ran

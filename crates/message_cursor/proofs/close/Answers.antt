@@ -14,7 +14,7 @@ pub returns : goal.returns
 returns c =
     let b = c.args.seat.now in
     let at = c.cursor_at-at.result in
-    let inside : at + cursor_size ≤ length b = omega (arith, c.requires, c.cursor_at-at.ensures, place_inside c.args.handle.0) in
+    let inside : at + cursor_size ≤ length b = omega (arith, c.cursor_at-at.ensures, place_inside c.args.handle.0) in
     put_is b at c.clear.new.words
     ∙ ap₂ (λ (p : ℕ) (x : List ℕ). put b p cursor_size x) c.cursor_at-at.ensures
     (c.clear.ensures ∙ ap zeros (ap length (part_is b at cursor_size) ∙ part_length b at cursor_size inside))

@@ -14,9 +14,9 @@ returns c =
     let a = c.args in
     let b = a.seat.now in
     let at = c.cursor_at-at.result in
-    put_is b at c.bind.new.cursor
+    put_is b at c.rebind_words.new.words
     ∙ ap (put b at cursor_size)
-    (c.bind.ensures
+    (c.rebind_words.ensures
     ∙ ap (λ (y : List ℕ). put (set (set y columns_at a.count) width_at a.width) records_at records_size a.records.now) (part_is b at cursor_size))
     ∙ ap (λ (p : ℕ). put b p cursor_size (put (set (set (part b p cursor_size) columns_at a.count) width_at a.width) records_at records_size a.records.now))
     c.cursor_at-at.ensures

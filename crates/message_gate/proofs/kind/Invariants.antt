@@ -1,10 +1,7 @@
-use mathlib.Core.Path.{◌≡◌}
-use Prim.Native.Nat.{◌≤◌, ◌-◌}
-use Rattle.message.specs.Message.{kinds, kind_from}
+use Rattle.std.proofs.Common.{◌≡◌, ◌-◌}
+use Rattle.message.specs.Message.{kinds, kind_of, kind_from}
 use Rattle.message_gate.proofs.kind.Given as goal
 
-abbrev pub invariant-loop-k : goal.invariant-loop-k
-invariant-loop-k l = (l.k ≤ kinds) × (kind_from kinds 0 l.msg ≡ kind_from (kinds - l.k) l.k l.msg)
-
-abbrev pub decreases-loop-k : goal.decreases-loop-k
-decreases-loop-k l = kinds - l.k
+-- none of the messages so far is the one that is looked for
+abbrev pub invariant-loop-served : goal.invariant-loop-served
+invariant-loop-served l = kind_of l.msg ≡ kind_from (kinds - l.served-index) l.served-index l.msg

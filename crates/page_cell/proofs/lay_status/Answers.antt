@@ -1,17 +1,15 @@
 -- One byte where the status is used. Assumes nothing.
 use mathlib.Core.List.{◌∷◌, []}
 use Prim.Native.Nat.{◌+◌}
-use Rattle.bindings.specs.Column.{column_at}
 use Rattle.page.proofs.Fields.{laid_unused, laid_used}
 use Rattle.page_cell.proofs.lay_status.Goals as goal
 
-pub returns-then-records-first-ne1 : goal.returns-then-records-first-ne1
-returns-then-records-first-ne1 c =
+pub returns-then-column-eq1 : goal.returns-then-column-eq1
+returns-then-column-eq1 c =
     let a = c.args in
-    laid_unused a.reply.now (column_at a.records.now a.index).status.used _ c.if-records-first-ne1.true
+    laid_used a.reply.now _ a.column.status.used (a.row + a.column.status.offset) (a.shown.status ∷ []) c.if-column-eq1.true c.lay_byte.ensures
 
-pub returns : goal.returns
-returns c =
+pub returns-else-column-eq1 : goal.returns-else-column-eq1
+returns-else-column-eq1 c =
     let a = c.args in
-    let k = column_at a.records.now a.index in
-    laid_used a.reply.now c.lay_byte.new.reply k.status.used (a.row + k.status.offset) (a.status ∷ []) c.if-records-first-ne1.false c.lay_byte.ensures
+    laid_unused a.reply.now a.column.status.used _ c.if-column-eq1.false

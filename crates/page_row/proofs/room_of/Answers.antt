@@ -2,7 +2,7 @@
 use mathlib.Core.Path.{ap, ◌∙◌}
 use Prim.Native.Nat.{ℕ, ◌+◌}
 use native.Mathlib.Omega.{arith}
-use Rattle.catalogue.specs.CataloguePlaces.{row_seen, fields_of}
+use Rattle.catalogue.specs.CataloguePlaces.{row_seen}
 use Rattle.bindings.specs.Column.{columns_of}
 use Rattle.page.specs.Rows.{blocks}
 use Rattle.page.proofs.Found.{fields_small}
@@ -13,7 +13,7 @@ pub row_blocks-requires : goal.row_blocks-requires
 row_blocks-requires c =
     let a = c.args in (
       sent_few a.bound a.records.now c.texts_sent-texts.result c.requires.0 c.texts_sent-texts.ensures,
-      fields_small a.catalogue.now c.place_of-at.result (fields_of c.fields_at-fields.result) (ap fields_of c.fields_at-fields.ensures),
+      fields_small a.catalogue.now c.place_of-at.result c.fields_at-fields.result c.fields_at-fields.ensures,
     )
 
 pub overflow_add-result : goal.overflow_add-result
@@ -22,9 +22,9 @@ overflow_add-result c =
     omega (
       arith,
       c.row_blocks.ensures,
-      blocks_few c.texts_sent-texts.result (fields_of c.fields_at-fields.result)
+      blocks_few c.texts_sent-texts.result c.fields_at-fields.result
           (sent_few a.bound a.records.now c.texts_sent-texts.result c.requires.0 c.texts_sent-texts.ensures)
-          (fields_small a.catalogue.now c.place_of-at.result (fields_of c.fields_at-fields.result) (ap fields_of c.fields_at-fields.ensures)),
+          (fields_small a.catalogue.now c.place_of-at.result c.fields_at-fields.result c.fields_at-fields.ensures),
       c.requires.1,
     )
 
@@ -34,5 +34,5 @@ returns c =
     let columns = columns_of a.bound a.records.now in
     ap (λ (n : ℕ). a.width + n)
     (c.row_blocks.ensures
-    ∙ blocks_seen a.catalogue.now c.place_of-at.result (fields_of c.fields_at-fields.result) c.texts_sent-texts.result columns (ap fields_of c.fields_at-fields.ensures) c.texts_sent-texts.ensures
+    ∙ blocks_seen a.catalogue.now c.place_of-at.result c.fields_at-fields.result c.texts_sent-texts.result columns c.fields_at-fields.ensures c.texts_sent-texts.ensures
     ∙ ap (λ (k : ℕ). blocks columns (row_seen a.catalogue.now k)) c.place_of-at.ensures)

@@ -23,10 +23,6 @@ invariant-loop-sent l =
     (length l.reply ≡ length l.initial.reply)
     × (l.top ≤ l.sheet.size)
     × (l.row ≤ l.top)
-    × (l.sent ≤ l.sheet.asked)
     × (in_all l.sheet l.records l.catalogue l.places l.numbers ≡ l.sent + still_sent l.sheet l.records l.catalogue l.places l.numbers l.sent (l.top - l.row))
     × (lays l.reply (rows_spans l.sheet.base l.sheet.width l.row l.top (columns_of l.sheet.bound l.records) (take (still_sent l.sheet l.records l.catalogue l.places l.numbers l.sent (l.top - l.row)) (rows_at l.catalogue l.places (drop l.sent l.numbers))))
     ≡ lays l.initial.reply (rows_spans l.sheet.base l.sheet.width l.sheet.from l.sheet.size (columns_of l.sheet.bound l.records) (take (in_all l.sheet l.records l.catalogue l.places l.numbers) (rows_at l.catalogue l.places l.numbers))))
-
-abbrev pub decreases-loop-sent : goal.decreases-loop-sent
-decreases-loop-sent l = l.sheet.asked - l.sent

@@ -18,7 +18,7 @@ lay_rows-sent-requires c =
     let records = c.args.records.now in
     let p = c.requires.0 in (
       record {
-        given = record { long = p.long; few = bound_few sheet.width sheet.bound records p.fits };
+        few = bound_few sheet.width sheet.bound records p.fits;
         narrow = (fit_sound sheet.width (columns_of sheet.bound records) p.fits).row.1;
         columns = bound_in sheet.width sheet.bound records p.fits;
         inside = p.inside;

@@ -1,5 +1,4 @@
 -- `table_bindings::bound_well` meets its contract: the three tests are made one after the other. Assumes nothing.
-use borrow.Author.Rules.{rules}
 use mathlib.Core.Path.{sym, ◌∙◌}
 use native.Mathlib.Omega.{arith}
 use Rattle.table.proofs.Judging.{fit_count}
@@ -8,7 +7,7 @@ use Rattle.table_bindings.proofs.bound_well.Goals as goal
 pub all_tidy-requires : goal.all_tidy-requires
 all_tidy-requires c =
     let a = c.args in
-    (search rules, fit_count a.width a.count a.records.now (sym c.fit.ensures ∙ c.if-not-fit.false))
+    fit_count a.width a.count a.records.now (sym c.fit.ensures ∙ c.if-not-fit.false)
 
 pub slice_bounds-all_zero-count : goal.slice_bounds-all_zero-count
 slice_bounds-all_zero-count c =

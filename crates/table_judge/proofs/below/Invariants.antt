@@ -1,13 +1,10 @@
 use mathlib.Core.Path.{◌≡◌}
 use mathlib.Core.Bool.{true}
-use Prim.Native.Nat.{ℕ, ◌≤◌, ◌<◌, ◌-◌}
+use Prim.Native.Nat.{ℕ, ◌<◌}
 use Rattle.table.specs.Layout.{seat_part}
 use Rattle.table.specs.Seat.{seat_of}
 use Rattle.table.specs.Well.{seat_below}
 use Rattle.table_judge.proofs.below.Given as goal
 
 abbrev pub invariant-loop-seat : goal.invariant-loop-seat
-invariant-loop-seat l = (l.seat ≤ 8) × ((k : ℕ) → k < l.seat → seat_below l.rows (seat_of (seat_part l.table k)) ≡ true)
-
-abbrev pub decreases-loop-seat : goal.decreases-loop-seat
-decreases-loop-seat l = 8 - l.seat
+invariant-loop-seat l = (k : ℕ) → k < l.seat-index → seat_below l.rows (seat_of (seat_part l.table k)) ≡ true

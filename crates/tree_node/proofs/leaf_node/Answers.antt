@@ -6,4 +6,4 @@ use Rattle.tree_node.proofs.leaf_node.Goals as goal
 pub returns-clause-result_in_bounds : goal.returns-clause-result_in_bounds
 returns-clause-result_in_bounds c =
     let a = c.args in
-    (leaf_read_lem a.kind a.unread.now a.place _ _ (sym c.read_leaf.ensures ∙ c.in-LeafTo.is)).inside
+    (leaf_read_lem a.kind a.unread.now a.place _ _ (sym c.read_leaf.ensures ∙ c.in_ok-used.was)).inside

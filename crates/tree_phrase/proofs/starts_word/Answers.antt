@@ -7,6 +7,6 @@ pub returns-then-place-eq0 : goal.returns-then-place-eq0
 unfolding starts_word
 returns-then-place-eq0 c = simp (eq-eqb _ _ c.if-place-eq0.true)
 
-pub returns : goal.returns
+pub returns-else-place-eq0 : goal.returns-else-place-eq0
 unfolding starts_word
-returns c = simp (ne_eqb _ _ c.if-place-eq0.false, c.unit.ensures)
+returns-else-place-eq0 c = simp (ne_eqb _ _ c.if-place-eq0.false, c.unit.ensures)

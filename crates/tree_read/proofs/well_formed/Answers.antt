@@ -6,8 +6,8 @@ use Rattle.tree_read.proofs.well_formed.Goals as goal
 pub returns-then-bytes-gt-BYTES_MOST : goal.returns-then-bytes-gt-BYTES_MOST
 returns-then-bytes-gt-BYTES_MOST c = whole_long c.args.bytes.now c.if-bytes-gt-BYTES_MOST.true
 
-pub returns-in-Node : goal.returns-in-Node
-returns-in-Node c = whole_by c.args.bytes.now c.if-bytes-gt-BYTES_MOST.false c.in-Node.used c.in-Node.field-1 (sym c.in-Node.is ∙ c.node.ensures.value)
+pub returns-in-Some : goal.returns-in-Some
+returns-in-Some c = whole_by c.args.bytes.now c.if-bytes-gt-BYTES_MOST.false _ _ (sym c.in-Some.is ∙ c.node.ensures.value)
 
-pub returns-in-NoNode : goal.returns-in-NoNode
-returns-in-NoNode c = whole_none c.args.bytes.now c.if-bytes-gt-BYTES_MOST.false (sym c.in-NoNode.is ∙ c.node.ensures.value)
+pub returns-in-None : goal.returns-in-None
+returns-in-None c = whole_none c.args.bytes.now c.if-bytes-gt-BYTES_MOST.false (sym c.in-None.is ∙ c.node.ensures.value)

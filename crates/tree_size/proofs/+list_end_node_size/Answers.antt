@@ -1,43 +1,69 @@
 -- The proof of the cycle of calls {list_end, node_size}. A call from a node to what lies below it has one level less, and a list measures its
 -- children at its own. The rest of a list goes on where the measured child ends (the loop's invariant). Assumes nothing.
-use Prim.Native.Nat.{◌-◌}
-use mathlib.Core.Path.{sym, ◌∙◌}
+use Prim.Native.Nat.{◌+◌, ◌-◌, ◌<◌}
+use lib.ListN.{length, take, drop}
+use Rattle.tree.specs.SizeTold.{Takes}
+use mathlib.Core.Path.{◌≡◌, sym, ◌∙◌}
 use native.Mathlib.Omega.{arith}
-use borrow.Author.Rules.{rules}
 use Rattle.tree.specs.Reader.{read_tree}
 use Rattle.tree.proofs.Nodes.{node_levels, node_inside, not_found, not_takes, takes_inside, leaf_found, leaf_takes, rest_ended, rest_found, rest_head, rest_property, rest_past, rest_room, branch_ready, branch_takes, branch_found, branch_head}
 use Rattle.tree_size.proofs.+list_end_node_size.Goals as goal
+use Rattle.tree_size.proofs.+list_end_node_size.Goals.{list_end-then-word-eq-PROPERTY, list_end-else-word-eq-PROPERTY}
+
+pub list_end-loop-measured-init : goal.list_end-loop-measured-init
+list_end-loop-measured-init t c = let all : c.args.count - 0 ≡ c.args.count = omega arith in rw all (λ place last l. l)
 
 pub list_end-word-requires : goal.list_end-word-requires
-list_end-word-requires t c = let a = c.args in let l = c.loop-left in
-    omega (arith, rest_head a.unread.now a.levels a.count a.from c.requires l.left l.at l.invariant (search rules))
+list_end-word-requires t c =
+    let a = c.args in
+    let l = c.loop-measured in
+    omega (arith, rest_head a.unread.now a.levels a.count a.from c.requires _ l.at l.invariant (omega (arith, c.loop-measured-test.true)))
 
-pub list_end-overflow_add-at : goal.list_end-overflow_add-at
-list_end-overflow_add-at t c = let a = c.args in let l = c.loop-left in
-    omega (arith, rest_room a.unread.now a.levels a.count a.from c.requires l.left l.at l.invariant (search rules) 44 (rest_property a.unread.now a.levels a.count a.from c.requires l.left l.at l.invariant (search rules) (sym c.if-word-eq-PROPERTY.true ∙ c.word.ensures)))
+pub list_end-slice_bounds-node_size-count : goal.list_end-slice_bounds-node_size-count
+list_end-slice_bounds-node_size-count t c =
+    let a = c.args in
+    let l = c.loop-measured in
+    omega (arith, rest_head a.unread.now a.levels a.count a.from c.requires _ l.at l.invariant (omega (arith, c.loop-measured-test.true)))
 
-pub list_end-slice_bounds-child-count : goal.list_end-slice_bounds-child-count
-list_end-slice_bounds-child-count t c = let a = c.args in let l = c.loop-left in
-    omega (arith, rest_head a.unread.now a.levels a.count a.from c.requires l.left l.at l.invariant (search rules))
-
-pub list_end-slice_bounds-child-start : goal.list_end-slice_bounds-child-start
-list_end-slice_bounds-child-start t c = list_end-slice_bounds-child-count t c
+pub list_end-slice_bounds-node_size-start : goal.list_end-slice_bounds-node_size-start
+list_end-slice_bounds-node_size-start t c = list_end-slice_bounds-node_size-count t c
 
 pub list_end-node_size-size-requires : goal.list_end-node_size-size-requires
-list_end-node_size-size-requires t c = let a = c.args in let l = c.loop-left in
-    (omega (arith, c.decreases), rest_found a.unread.now a.levels a.count a.from c.requires l.left l.at l.invariant (search rules))
+list_end-node_size-size-requires t c =
+    let a = c.args in
+    let l = c.loop-measured in
+    (omega (arith, c.decreases), rest_found a.unread.now a.levels a.count a.from c.requires _ l.at l.invariant (omega (arith, c.loop-measured-test.true)))
 
-pub list_end-overflow_add-at-in-loop-left : goal.list_end-overflow_add-at-in-loop-left
-list_end-overflow_add-at-in-loop-left t c = let a = c.args in let l = c.loop-left in
-    omega (arith, rest_room a.unread.now a.levels a.count a.from c.requires l.left l.at l.invariant (search rules) c.node_size-size.result c.node_size-size.ensures)
+pub list_end-overflow_add-at : goal.list_end-overflow_add-at
+list_end-overflow_add-at t c =
+    let a = c.args in
+    let l = c.loop-measured in
+    let more : 0 < a.count - l.measured = omega (arith, c.loop-measured-test.true) in
+    let takes : Takes (read_tree a.levels) (take (length a.unread.now - l.at) (drop l.at a.unread.now)) c.if-word-eq-PROPERTY.size
+    = elim c.if-word-eq-PROPERTY.branch [
+      | list_end-then-word-eq-PROPERTY w ↦ rw w.size-is (rest_property a.unread.now a.levels a.count a.from c.requires _ l.at l.invariant more (sym w.if-word-eq-PROPERTY.true ∙ c.word.ensures))
+      | list_end-else-word-eq-PROPERTY w ↦ rw w.size-is w.node_size-size.ensures
+    ] in
+    omega (arith, rest_room a.unread.now a.levels a.count a.from c.requires _ l.at l.invariant more c.if-word-eq-PROPERTY.size takes)
 
-pub list_end-loop-left-preserved : goal.list_end-loop-left-preserved
-list_end-loop-left-preserved t c = let a = c.args in let l = c.loop-left in
-    rest_past a.unread.now a.levels a.count a.from c.requires l.left l.at l.invariant (search rules) c.node_size-size.result c.node_size-size.ensures
+pub list_end-loop-measured-preserved : goal.list_end-loop-measured-preserved
+list_end-loop-measured-preserved t c =
+    let a = c.args in
+    let l = c.loop-measured in
+    let more : 0 < a.count - l.measured = omega (arith, c.loop-measured-test.true) in
+    let takes : Takes (read_tree a.levels) (take (length a.unread.now - l.at) (drop l.at a.unread.now)) c.if-word-eq-PROPERTY.size
+    = elim c.if-word-eq-PROPERTY.branch [
+      | list_end-then-word-eq-PROPERTY w ↦ rw w.size-is (rest_property a.unread.now a.levels a.count a.from c.requires _ l.at l.invariant more (sym w.if-word-eq-PROPERTY.true ∙ c.word.ensures))
+      | list_end-else-word-eq-PROPERTY w ↦ rw w.size-is w.node_size-size.ensures
+    ] in
+    let less : a.count - (l.measured + 1) ≡ a.count - l.measured - 1 = omega arith in
+    rw less (rest_past a.unread.now a.levels a.count a.from c.requires _ l.at l.invariant more c.if-word-eq-PROPERTY.size takes)
 
 pub list_end-returns : goal.list_end-returns
-list_end-returns t c = let a = c.args in let l = c.loop-left in
-    rest_ended a.unread.now a.levels a.count a.from c.requires l.left l.at l.invariant (search rules)
+list_end-returns t c =
+    let a = c.args in
+    let l = c.loop-measured in
+    rest_ended a.unread.now a.levels a.count a.from c.requires _ l.at l.invariant (omega (arith, c.loop-measured-test.false))
 
 pub node_size-word-kind-requires : goal.node_size-word-kind-requires
 node_size-word-kind-requires t c = let a = c.args in let f = c.requires in
@@ -82,11 +108,6 @@ pub node_size-leaf_size-requires : goal.node_size-leaf_size-requires
 node_size-leaf_size-requires t c = let a = c.args in let f = c.requires in
     leaf_found a.levels a.unread.now c.word-kind.result c.word-kind.ensures (sym c.is_branch.ensures ∙ c.if-is_branch.false) c.if-kind-eq-NOT.false f
 
-pub node_size-returns : goal.node_size-returns
-node_size-returns t c = let a = c.args in let f = c.requires in
+pub node_size-returns-else-kind-eq-NOT : goal.node_size-returns-else-kind-eq-NOT
+node_size-returns-else-kind-eq-NOT t c = let a = c.args in let f = c.requires in
     leaf_takes a.levels a.unread.now c.word-kind.result c.word-kind.ensures (sym c.is_branch.ensures ∙ c.if-is_branch.false) c.if-kind-eq-NOT.false c.leaf_size.result c.leaf_size.ensures
-
-pub list_end-loop-left-preserved-then-word-eq-PROPERTY :
-    goal.list_end-loop-left-preserved-then-word-eq-PROPERTY
-list_end-loop-left-preserved-then-word-eq-PROPERTY t c = let a = c.args in let l = c.loop-left in
-    rest_past a.unread.now a.levels a.count a.from c.requires l.left l.at l.invariant (search rules) 44 (rest_property a.unread.now a.levels a.count a.from c.requires l.left l.at l.invariant (search rules) (sym c.if-word-eq-PROPERTY.true ∙ c.word.ensures))

@@ -14,5 +14,5 @@ returns-then-kind-eq-CONTENT c =
     ap (λ (n : ℕ). n + 8) (locale_counted s c.word-count.result c.padding.result c.word-count.ensures c.padding.ensures)
     ∙ content_size c.args.kind s c.requires c.if-kind-eq-CONTENT.true
 
-pub returns : goal.returns
-returns c = relation_size_lem c.args.kind c.args.unread.now c.requires c.if-kind-eq-CONTENT.false
+pub returns-else-kind-eq-CONTENT : goal.returns-else-kind-eq-CONTENT
+returns-else-kind-eq-CONTENT c = relation_size_lem c.args.kind c.args.unread.now c.requires c.if-kind-eq-CONTENT.false

@@ -1,16 +1,17 @@
--- `wire_checksum::checksum` meets its contract: each of the two tests of the size picks its case. Assumes nothing.
-use borrow.Author.Tests.{lt-leb, le-leb}
-use Rattle.wire.specs.Checksum.{checksum_told}
+-- `wire_checksum::checksum` meets its contract: the test of the size picks the case. Assumes nothing.
+use borrow.Author.Rules.{rules}
+use mathlib.Core.Path.{◌≡◌, sym, ◌∙◌}
+use Rattle.wire.specs.Checksum.{message_sized, checksum_told}
 use Rattle.wire_checksum.proofs.checksum.Goals as goal
 
-pub returns-then-message-lt-HEADER_SIZE : goal.returns-then-message-lt-HEADER_SIZE
+pub returns-then-contains : goal.returns-then-contains
 unfolding checksum_told
-returns-then-message-lt-HEADER_SIZE c = simp (lt-leb _ _ c.if-message-lt-HEADER_SIZE.true)
+returns-then-contains c =
+    let sized : c.contains.result ≡ message_sized c.args.message.now = search rules in
+    rw (sym sized ∙ c.if-contains.true) (c.from.ensures ∙ c.checksum_of.ensures)
 
-pub returns-then-message-gt-MESSAGE_MOST : goal.returns-then-message-gt-MESSAGE_MOST
+pub returns-else-contains : goal.returns-else-contains
 unfolding checksum_told
-returns-then-message-gt-MESSAGE_MOST c = simp (le-leb _ _ c.if-message-lt-HEADER_SIZE.false, lt-leb _ _ c.if-message-gt-MESSAGE_MOST.true)
-
-pub returns : goal.returns
-unfolding checksum_told
-returns c = simp (le-leb _ _ c.if-message-lt-HEADER_SIZE.false, le-leb _ _ c.if-message-gt-MESSAGE_MOST.false) c.checksum_of.ensures
+returns-else-contains c =
+    let sized : c.contains.result ≡ message_sized c.args.message.now = search rules in
+    rw (sym sized ∙ c.if-contains.false)

@@ -9,8 +9,8 @@ use Rattle.wire_copy.proofs.lay_few.Goals as goal
 
 pub loop-i-preserved : goal.loop-i-preserved
 loop-i-preserved c = let l = c.loop-i in let a = c.args in
-    (omega arith, simp length-set l.invariant.1, rw (l.invariant.2, add-one) (paste-suc a.reply.now a.at a.bytes.now l.i 0 (omega arith) (omega arith)))
+    (simp length-set l.invariant.0, rw (l.invariant.1, add-one) (paste-suc a.reply.now a.at a.bytes.now l.i 0 (omega arith) (omega arith)))
 
 pub returns : goal.returns
 returns c = let l = c.loop-i in let a = c.args in
-    l.invariant.2 ∙ copied a.reply.now a.at a.bytes.now l.i (omega arith)
+    l.invariant.1 ∙ copied a.reply.now a.at a.bytes.now l.i (omega arith)

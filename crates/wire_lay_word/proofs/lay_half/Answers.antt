@@ -1,9 +1,10 @@
--- Two stores side by side lay two bytes. Assumes nothing.
-use native.Mathlib.Numerals.{add-one}
-use Rattle.wire.specs.Word.{le}
-use Rattle.wire.proofs.Lay.{stores}
+-- The bytes laid are those of the number's low part. Assumes nothing.
+use mathlib.Core.Path.{ap, ◌∙◌}
+use Rattle.wire.specs.Laid.{lay}
+use Rattle.wire.proofs.Encoded.{bytes_le}
 use Rattle.wire_lay_word.proofs.lay_half.Goals as goal
 
 pub returns : goal.returns
-unfolding le
-returns c = rw add-one (stores c.args.reply.now c.args.at (le 2 c.args.value) c.requires)
+returns c =
+    let a = c.args in
+    c.lay_array.ensures ∙ ap (lay a.reply.now a.at) (c.to_le_bytes.ensures ∙ bytes_le 2 a.value)

@@ -1,8 +1,10 @@
--- The low word and then the high one are the long. Assumes nothing.
-use native.Mathlib.Omega.{arith}
-use Rattle.wire.proofs.Little.{lay_parts}
+-- The bytes laid are those of the number. Assumes nothing.
+use mathlib.Core.Path.{ap, ◌∙◌}
+use Rattle.wire.specs.Laid.{lay}
+use Rattle.wire.proofs.Encoded.{long_le}
 use Rattle.wire_lay_word.proofs.lay_long.Goals as goal
 
 pub returns : goal.returns
 returns c =
-    lay_parts 4 4 c.args.reply.now c.args.at c.args.value (omega (arith, c.requires)) c.lay_word.ensures c.lay_word-2.ensures
+    let a = c.args in
+    c.lay_array.ensures ∙ ap (lay a.reply.now a.at) (c.to_le_bytes.ensures ∙ long_le a.value)

@@ -1,8 +1,10 @@
--- The low half and then the high one are the word. Assumes nothing.
-use native.Mathlib.Omega.{arith}
-use Rattle.wire.proofs.Little.{lay_parts}
+-- The bytes laid are those of the number's low part. Assumes nothing.
+use mathlib.Core.Path.{ap, ◌∙◌}
+use Rattle.wire.specs.Laid.{lay}
+use Rattle.wire.proofs.Encoded.{bytes_le}
 use Rattle.wire_lay_word.proofs.lay_word.Goals as goal
 
 pub returns : goal.returns
 returns c =
-    lay_parts 2 2 c.args.reply.now c.args.at c.args.value (omega (arith, c.requires)) c.lay_half.ensures c.lay_half-2.ensures
+    let a = c.args in
+    c.lay_array.ensures ∙ ap (lay a.reply.now a.at) (c.to_le_bytes.ensures ∙ bytes_le 4 a.value)

@@ -8,6 +8,6 @@ pub returns-then-word-eq-NUMBERED : goal.returns-then-word-eq-NUMBERED
 unfolding property_at
 returns-then-word-eq-NUMBERED c = rw (eq-eqb _ _ (sym c.word.ensures ∙ c.if-word-eq-NUMBERED.true)) c.named.ensures
 
-pub returns : goal.returns
+pub returns-else-word-eq-NUMBERED : goal.returns-else-word-eq-NUMBERED
 unfolding property_at
-returns c = rw (ne_eqb _ _ (λ e. c.if-word-eq-NUMBERED.false (c.word.ensures ∙ e)))
+returns-else-word-eq-NUMBERED c = rw (ne_eqb _ _ (λ e. c.if-word-eq-NUMBERED.false (c.word.ensures ∙ e)))

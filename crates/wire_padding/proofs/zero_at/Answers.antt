@@ -1,18 +1,23 @@
--- The bytes passed are zero (the loop's invariant); one that is not shows that not each is. Assumes nothing.
+-- All of the part is zero where each of its places is. Assumes nothing.
 use borrow.Author.Rules.{rules}
-use mathlib.Core.Path.{sym}
-use Prim.Native.Nat.{◌+◌}
+use borrow.Author.Tests.{tests}
+use mathlib.Core.Path.{ap, ◌∙◌}
+use mathlib.Core.List.{List}
+use Prim.Native.Nat.{ℕ}
 use lib.Dec.{eqb}
-use lib.ListN.{get_or}
-use borrow.Author.Tests.{ne_eqb}
-use Rattle.lists.proofs.Below.{every_shown, every_broken}
+use Rattle.std.specs.List.{list_all}
+use Rattle.std.proofs.lemmas.Iterator.{YieldsList-from_slice}
+use Rattle.std.proofs.lemmas.Iterator.Search.{all_from_yields_List}
+use Rattle.lists.proofs.Library.{part_all}
+use Rattle.lists.proofs.Parts.{part_is}
 use Rattle.wire.specs.Padding.{zero_at}
 use Rattle.wire_padding.proofs.zero_at.Goals as goal
 
-pub returns-then-bytes-at-ne0 : goal.returns-then-bytes-at-ne0
-unfolding zero_at
-returns-then-bytes-at-ne0 c = let a = c.args in sym (every_broken a.count (λ i. eqb (get_or a.bytes.now (a.at + i) 0) 0) c.loop-i.i (search rules) (ne_eqb _ _ c.if-bytes-at-ne0.true))
-
 pub returns : goal.returns
 unfolding zero_at
-returns c = let a = c.args in sym (every_shown a.count (λ i. eqb (get_or a.bytes.now (a.at + i) 0) 0) (λ k h. c.loop-i.invariant.1 k (search rules)))
+returns c =
+    let a = c.args in
+    let zero = λ (b : ℕ). eqb b 0 in
+    all_from_yields_List zero _ _ c.all.result c.all.ensures.ran (YieldsList-from_slice _ c.iter.ensures.rest) (λ x b q k. search (rules, tests))
+    ∙ ap (λ (t : List ℕ). list_all zero t) (part_is a.bytes.now a.at a.count)
+    ∙ part_all a.bytes.now a.at a.count c.requires zero
