@@ -13,7 +13,7 @@ fn column_fits(column: Column) -> bool
     ensures { result ≡ column_fits column }
 {
     let size = wire_property::cell_size(column.property, column.vtype);
-    lists_test::within(wire::KEY, wire::NOTE, column.property)
+    (wire::KEY..=wire::NOTE).contains(&column.property)
         && size != 0
         && (column.value.used != 1 || column.value.size == size)
 }

@@ -3,13 +3,20 @@ use mathlib.Core.Path.{◌≡◌, sym, ◌∙◌}
 use mathlib.Core.List.{List}
 use Prim.Native.Nat.{ℕ}
 use Rattle.line.specs.declared.Place.{Place}
+use Rattle.line.specs.declared.Out.{Out}
 use Rattle.line.proofs.TextLaws.{put_once}
-use Rattle.file.specs.Served.{Answer, Serves, Lent, Lends, LineServed}
+use Rattle.file.specs.Served.{Answer, Serves, ServesOut, Lent, Lends, LineServed}
 
 pub serves_once : (a : Answer) (used r r' : ℕ) (w w' before after after' : List ℕ) → Serves a used r w before after → Serves a used r' w' before after'
     → (r ≡ r') × (w ≡ w') × (after ≡ after')
 serves_once a used r r' w w' before after after' p q =
     let s = put_once a.text used r r' before after after' p.said q.said in (s.0, p.kept ∙ sym q.kept, s.1)
+
+pub serves_out_once : (a : Answer) (w w' : List ℕ) (before after after' : Out) → ServesOut a w before after → ServesOut a w' before after'
+    → (w ≡ w') × (after.used ≡ after'.used) × (after.bytes.now ≡ after'.bytes.now) × (after.bytes.ghost_name ≡ after'.bytes.ghost_name)
+serves_out_once a w w' before after after' p q =
+    let s = serves_once a before.used after.used after'.used w w' before.bytes.now after.bytes.now after'.bytes.now p.serves q.serves in
+    (s.1, s.0, s.2, p.stays.same ∙ sym q.stays.same)
 
 pub lends_once : (l : Lent) (r r' : ℕ) (exit exit' : List ℕ) → Lends l r exit → Lends l r' exit' → (r ≡ r') × (exit ≡ exit')
 lends_once l r r' exit exit' p q = (p.sized ∙ sym q.sized, p.left ∙ sym q.left)

@@ -10,12 +10,13 @@ use Rattle.line.specs.Digits.{hex_bytes}
 use Rattle.line.proofs.DigitLaws.{hex_count}
 use Rattle.line.specs.Line.{room_most}
 use Rattle.line.specs.declared.Reason.{Reason}
-use Rattle.line.specs.Text.{Put, fill_byte, changed}
+use Rattle.line.specs.declared.Out.{Out}
+use Rattle.line.specs.Text.{Written, fill_byte, changed}
 use Rattle.line.proofs.TextLaws.{put_none}
 use Rattle.line.specs.Answer.{error_text, connect_text, open_text, message_text}
 use Rattle.line.proofs.Short.{error_short, connect_short, open_short, message_short}
 use Rattle.call.specs.Step.{Outcome, Keeps}
-use Rattle.file.specs.Served.{silent, connected, opened, replied, Serves}
+use Rattle.file.specs.Served.{Answer, silent, connected, opened, replied, ServesOut, answer_most}
 use Rattle.file.proofs.Short.{part_short}
 
 -- the bytes that were loaded are the first of their buffer
@@ -47,36 +48,39 @@ kept_count {o} {refusal} {handle} {count} {words} {entry} {exit} k h =
 pub part_size : (n : ℕ) (s : List ℕ) → n ≤ length s → length (take (n - 0) s) ≡ n
 part_size n s h = let same : n - 0 ≡ n = omega arith in rw same (length-take-le n s h)
 
-module _ (used r : ℕ) (words before after : List ℕ) where
+-- an answer that was laid in an output
+pub served : {a : Answer} {words : List ℕ} {before after : Out} → words ≡ a.words → Written a.text before after
+    → length a.text ≤ answer_most → ServesOut a words before after
+served k w h = record { serves = record { kept = k; said = w.put; fits = omega (arith, w.put.next, h) }; stays = w.stays }
+
+module _ (words : List ℕ) (before after : Out) where
   pub served_message : (o : Outcome) (refusal handle count n : ℕ) (entry exit : List ℕ) → n ≤ room_most → entry ≡ replicate n fill_byte
-      → Keeps o refusal handle count words entry exit → length exit ≡ length entry → Put (message_text refusal count exit) used r before after
-      → Serves (replied o) used r words before after
+      → Keeps o refusal handle count words entry exit → length exit ≡ length entry → Written (message_text refusal count exit) before after
+      → ServesOut (replied o) words before after
   served_message o refusal handle count n entry exit m e k h p = record {
-    kept = k.kept;
-    said = rw (sent o.refusal n o.reply) at (rw (k.refused, k.counted, k.written, e) at p);
-    fits = omega (arith, p.next, message_short refusal count exit, part_short count exit, kept_count k h, ap length e, length-replicate n fill_byte);
+    serves = record {
+      kept = k.kept;
+      said = rw (sent o.refusal n o.reply) at (rw (k.refused, k.counted, k.written, e) at p.put);
+      fits = omega (arith, p.put.next, message_short refusal count exit, part_short count exit, kept_count k h, ap length e, length-replicate n fill_byte);
+    };
+    stays = p.stays;
   }
 
-  pub served_open : (o : Outcome) (refusal handle : ℕ) → Keeps o refusal handle 0 words [] [] → Put (open_text refusal handle) used r before after
-      → Serves (opened o) used r words before after
-  served_open o refusal handle k p = record {
-    kept = k.kept;
-    said = rw (k.refused, k.given) at p;
-    fits = omega (arith, p.next, open_short refusal handle);
-  }
+  pub served_open : (o : Outcome) (refusal handle : ℕ) → Keeps o refusal handle 0 words [] [] → Written (open_text refusal handle) before after
+      → ServesOut (opened o) words before after
+  served_open o refusal handle k p = served k.kept (rw (k.refused, k.given) at p) (omega (arith, open_short o.refusal o.handle))
 
-  pub served_connect : (o : Outcome) (refusal : ℕ) → Keeps o refusal 0 0 words [] [] → Put (connect_text refusal) used r before after
-      → Serves (connected o) used r words before after
-  served_connect o refusal k p = record {
-    kept = k.kept;
-    said = rw k.refused at p;
-    fits = omega (arith, p.next, connect_short refusal);
-  }
+  pub served_connect : (o : Outcome) (refusal : ℕ) → Keeps o refusal 0 0 words [] [] → Written (connect_text refusal) before after
+      → ServesOut (connected o) words before after
+  served_connect o refusal k p = served k.kept (rw k.refused at p) (omega (arith, connect_short o.refusal))
 
-  pub served_error : (number : ℕ) (reason : Reason) → Put (error_text number reason) used r before after
-      → Serves (record { text = error_text number reason; words = words }) used r words before after
-  served_error number reason p = record { kept = refl; said = p; fits = omega (arith, p.next, error_short number reason) }
+  pub served_error : (number : ℕ) (reason : Reason) → Written (error_text number reason) before after
+      → ServesOut (record { text = error_text number reason; words = words }) words before after
+  served_error number reason p = served refl p (omega (arith, error_short number reason))
 
 -- nothing is said
-pub served_none : (words before : List ℕ) (used : ℕ) → Serves (silent words) used used words before before
-served_none words before used = record { kept = refl; said = put_none used before; fits = omega arith }
+pub served_none : (words : List ℕ) (o : Out) → ServesOut (silent words) words o o
+served_none words o = record {
+  serves = record { kept = refl; said = put_none o.used o.bytes.now; fits = omega arith };
+  stays = record { long = refl; same = refl };
+}

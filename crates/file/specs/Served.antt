@@ -10,10 +10,11 @@ use Rattle.line.specs.declared.Reason.{Reason}
 use Rattle.line.specs.declared.Digits.{Digits}
 use Rattle.line.specs.declared.Call.{Call}
 use Rattle.line.specs.declared.Call.TheVariants as call
-use Rattle.line.specs.Text.{Put}
+use Rattle.line.specs.Text.{Put, Stays}
 use Rattle.line.specs.Answer.{error_text, connect_text, open_text, message_text, plain}
 use Rattle.line.specs.Kept.{kept_call, out_full, waits}
 use Rattle.line.specs.declared.Place.{Place}
+use Rattle.line.specs.declared.Out.{Out}
 use Rattle.call.specs.Step.{Outcome, sources_of, connect_step, open_step, message_step}
 
 -- the bytes of any answer, at most: those of a reply in hex digits, beside the words
@@ -68,6 +69,11 @@ pub record Serves (a : Answer) (used r : ℕ) (words before after : List ℕ) : 
   pub kept : words ≡ a.words
   pub said : Put a.text used r before after
   pub fits : r ≤ used + answer_most
+
+-- the same in an output, after the bytes in use
+pub record ServesOut (a : Answer) (words : List ℕ) (before after : Out) : Type 0 where
+  pub serves : Serves a before.used after.used words before.bytes.now after.bytes.now
+  pub stays : Stays before after
 
 -- the buffer of the catalogue, and how many of its bytes are lent
 pub record Lent : Type 0 where

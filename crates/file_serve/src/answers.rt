@@ -5,9 +5,9 @@ ghost use Rattle.line.specs.Digits.{hex_bytes};
 ghost use Rattle.line.specs.Line.{bytes_most, catalogue_most, index_most, room_most};
 ghost use Rattle.line.specs.CallReady.{CallReady, LineReady};
 ghost use Rattle.call.specs.Step.{sources_of, message_step, open_step};
-ghost use Rattle.file.specs.Served.{answer_most, opened, replied, answer_of, answer_to, Serves, lent_of, lent_by, Lends};
+ghost use Rattle.file.specs.Served.{answer_most, opened, replied, answer_of, answer_to, ServesOut, lent_of, lent_by, Lends};
 
-use line::{Call, Reason};
+use line::{Call, Out, Reason};
 use refusal::Refusal;
 use table::{Handle, Seat};
 
@@ -36,23 +36,22 @@ fn reply(
     seat: Seat,
     bytes: &[u8],
     space: &mut [u8],
-    out: &mut [u8],
-    used: usize,
-) -> usize
-    requires { (length space.old ≤ room_most) × (used + answer_most ≤ length out.old) }
-    ensures { Serves
+    out: &mut Out,
+)
+    requires { (length space.old ≤ room_most) × (out.old.used + answer_most ≤ length out.old.bytes.now) }
+    ensures { ServesOut
         (replied (message_step (sources_of catalogue.now) table.old seat.0
         bytes.now (length space.old)))
-        used result table.new out.old out.new }
+        table.new out.old out.new }
 {
     line_text::fill(space);
     let answered = call_message::message(table, catalogue, seat, bytes, space);
     let count = message_gate::count(answered);
     match answered {
-        Ok(_) => line_answer::put_message(out, used, 0, space, count as usize),
+        Ok(_) => line_answer::put_message(out, 0, space, count as usize),
         Err(refused) => {
             let refusal = number_of(refused);
-            line_answer::put_message(out, used, refusal, space, count as usize)
+            line_answer::put_message(out, refusal, space, count as usize)
         }
     }
 }
@@ -64,14 +63,14 @@ fn message(
     seat: Seat,
     room: usize,
     digits: &[u8],
-    out: &mut [u8],
-    used: usize,
-) -> usize
-    requires { (room ≤ room_most) × (length digits.now / 2 ≤ bytes_most) × (used + answer_most ≤ length out.old) }
-    ensures { Serves
+    out: &mut Out,
+)
+    requires { (room ≤ room_most) × (length digits.now / 2 ≤ bytes_most)
+        × (out.old.used + answer_most ≤ length out.old.bytes.now) }
+    ensures { ServesOut
         (replied (message_step (sources_of catalogue.now) table.old seat.0
         (hex_bytes digits.now) room))
-        used result table.new out.old out.new }
+        table.new out.old out.new }
 {
     let mut bytes = [0u8; line::BYTES_MOST];
     let mut space = [0u8; line::ROOM_MOST as usize];
@@ -83,94 +82,77 @@ fn message(
         &bytes[0..size],
         &mut space[0..room],
         out,
-        used,
     )
 }
 
 // Serves the opening whose tree's digits stand in a part of the line.
-fn open(
-    table: &mut [u32],
-    catalogue: &[u8],
-    seat: Seat,
-    digits: &[u8],
-    out: &mut [u8],
-    used: usize,
-) -> usize
-    requires { (length digits.now / 2 ≤ bytes_most) × (used + answer_most ≤ length out.old) }
-    ensures { Serves
+fn open(table: &mut [u32], catalogue: &[u8], seat: Seat, digits: &[u8], out: &mut Out)
+    requires { (length digits.now / 2 ≤ bytes_most) × (out.old.used + answer_most ≤ length out.old.bytes.now) }
+    ensures { ServesOut
         (opened (open_step (sources_of catalogue.now) table.old seat.0
         (hex_bytes digits.now)))
-        used result table.new out.old out.new }
+        table.new out.old out.new }
 {
     let mut bytes = [0u8; line::BYTES_MOST];
     let size = line_answer::load(digits, &mut bytes);
     match call_open::open(table, catalogue, seat, &bytes[0..size]) {
-        Ok(handle) => line_answer::put_open(out, used, 0, handle),
+        Ok(handle) => line_answer::put_open(out, 0, handle),
         Err(refused) => {
             let refusal = number_of(refused);
-            line_answer::put_open(out, used, refusal, Handle(0))
+            line_answer::put_open(out, refusal, Handle(0))
         }
     }
 }
 
-// Serves a call of the line. Answers how many bytes of the output are then in use.
-fn answer(
-    call: Call,
-    line: &[u8],
-    table: &mut [u32],
-    catalogue: &[u8],
-    out: &mut [u8],
-    used: usize,
-) -> usize
-    requires { CallReady (length line.now) call × (index_most < length table.old) × (used + answer_most ≤ length out.old) }
-    ensures { Serves (answer_of call line.now table.old catalogue.now) used result table.new out.old out.new }
+// Serves a call of the line.
+fn answer(call: Call, line: &[u8], table: &mut [u32], catalogue: &[u8], out: &mut Out)
+    requires { CallReady (length line.now) call × (index_most < length table.old)
+        × (out.old.used + answer_most ≤ length out.old.bytes.now) }
+    ensures { ServesOut (answer_of call line.now table.old catalogue.now) table.new out.old out.new }
 {
     match call {
-        Call::Nothing => used,
-        Call::Catalogue(_) => used,
+        Call::Nothing | Call::Catalogue(_) => {}
         Call::Connect { seat, version } => {
             match call_connect::connect(table, catalogue, Seat(seat), version) {
-                Ok(()) => line_answer::put_connect(out, used, 0),
+                Ok(()) => line_answer::put_connect(out, 0),
                 Err(refused) => {
                     let refusal = number_of(refused);
-                    line_answer::put_connect(out, used, refusal)
+                    line_answer::put_connect(out, refusal)
                 }
             }
         }
         Call::Open { seat, tree } => {
             let digits = &line[tree.first..tree.last];
-            open(table, catalogue, Seat(seat), digits, out, used)
+            open(table, catalogue, Seat(seat), digits, out)
         }
         Call::Message { seat, room, bytes } => {
             let digits = &line[bytes.first..bytes.last];
             let room = room as usize;
-            message(table, catalogue, Seat(seat), room, digits, out, used)
+            message(table, catalogue, Seat(seat), room, digits, out)
         }
         Call::Word { index, value } => {
             table[index as usize] = value;
-            used
         }
     }
 }
 
-// Serves the call that the line is, or tells why it is none. Answers how many bytes of the output are then in use.
+// Serves the call that the line is, or tells why it is none.
 pub fn serve(
     call: Result<Call, Reason>,
     line: &[u8],
     number: u64,
     table: &mut [u32],
     catalogue: &[u8],
-    out: &mut [u8],
-    used: usize,
-) -> usize
+    out: &mut Out,
+)
     requires { LineReady (length line.now) call × (index_most < length table.old)
-        × (used + answer_most ≤ length out.old) }
-    ensures { Serves
+        × (out.old.used + answer_most ≤ length out.old.bytes.now) }
+    ensures { ServesOut
         (answer_to call line.now number table.old catalogue.now)
-        used result table.new out.old out.new }
+        table.new out.old out.new }
 {
     match call {
-        Ok(call) => answer(call, line, table, catalogue, out, used),
-        Err(reason) => line_answer::put_error(out, used, number, reason),
+        Ok(call) => answer(call, line, table, catalogue, out),
+        Err(reason) => line_answer::put_error(out, number, reason),
     }
 }

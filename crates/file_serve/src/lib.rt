@@ -5,7 +5,7 @@ ghost use Rattle.file.specs.FileReady.{line_most};
 ghost use Rattle.file.specs.Served.{LineServed};
 ghost use Rattle.line.specs.PlaceReady.{PlaceReady};
 
-use line::Place;
+use line::{Out, Place};
 use std::io::{Eprint, Print, Read};
 
 mod answers; // answers.rt: one call, served, and its answer
@@ -35,21 +35,25 @@ fn serve<R: Print + Eprint>(rt: &R, place: Place, buffers: &mut Buffers) -> Plac
     let text = &buffers.line[..place.kept];
     let call = file_buffer::call_of(text, place.cut);
     let catalogue = answers::lend(call, text, &mut buffers.catalogue, place.catalogue);
-    let answered = answers::serve(
+    let mut out = Out {
+        bytes: &mut buffers.out,
+        used: place.used,
+    };
+    answers::serve(
         call,
         text,
         place.number,
         &mut buffers.table,
         &buffers.catalogue[..catalogue],
-        &mut buffers.out,
-        place.used,
+        &mut out,
     );
+    let used = out.used;
     Place {
         number: place.number.wrapping_add(1),
         kept: 0,
         cut: false,
         catalogue,
-        used: file_buffer::written(rt, &buffers.out, answered, FULL),
+        used: file_buffer::written(rt, &buffers.out, used, FULL),
     }
 }
 

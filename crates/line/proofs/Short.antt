@@ -1,21 +1,21 @@
 -- How long an answer is. Assumes nothing.
 use mathlib.Core.Bool.{Bool, true, false}
-use mathlib.Core.Path.{◌≡◌}
 use mathlib.Core.List.{List, ◌++◌}
 use Prim.Native.Nat.{ℕ, ◌+◌, ◌*◌, ◌≤◌}
 use native.Mathlib.Omega.{arith}
 use lib.ListN.{length, take, drop, length-append}
 use Rattle.line.specs.declared.Reason.{Reason}
 use Rattle.line.specs.declared.Reason.TheVariants.{UnknownCall, MissingWord, ExtraWord, BadNumber, BadHex, TooLong, NoSuchWord}
-use Rattle.line.specs.Text.{Put, decimal_text, hex_text, changed}
+use Rattle.line.specs.declared.Out.{Out}
+use Rattle.line.specs.Text.{Written, decimal_text, hex_text, changed}
 use Rattle.line.proofs.Numeral.{numeral_short}
-use Rattle.line.proofs.TextLaws.{hex_short}
+use Rattle.line.proofs.TextLaws.{hex_short, written_room}
 use Rattle.line.specs.Answer.{space, feed, reason_text, error_text, connect_text, open_text, end_text, message_text, plain}
 
 -- the room that a word and a number leave
-pub room_after : (v room : ℕ) (word : List ℕ) {at r : ℕ} {a b : List ℕ} → Put (word ++ decimal_text v) at r a b
-    → at + length word + 20 + room ≤ length a → length b ≡ length a → r + room ≤ length b
-room_after v room word p h e = omega (arith, p.next, length-append word (decimal_text v), numeral_short 20 v, h, e)
+pub room_after : (v room : ℕ) (word : List ℕ) {a b : Out} → Written (word ++ decimal_text v) a b
+    → a.used + length word + 20 + room ≤ length a.bytes.now → b.used + room ≤ length b.bytes.now
+room_after v room word w h = written_room room w (omega (arith, length-append word (decimal_text v), numeral_short 20 v, h))
 
 pub reason_short : (r : Reason) → length (reason_text r) ≤ 12
 reason_short UnknownCall = omega arith

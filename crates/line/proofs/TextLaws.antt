@@ -12,7 +12,8 @@ use Rattle.lists.proofs.Below.{by_test}
 use Rattle.lists.specs.Below.{pick, either}
 use Rattle.wire.specs.Laid.{lay}
 use Rattle.wire.proofs.Lay.{lay_join}
-use Rattle.line.specs.Text.{Put, glyph, hex_pairs, hex_text, fill_byte, changed}
+use Rattle.line.specs.declared.Out.{Out}
+use Rattle.line.specs.Text.{Put, Written, glyph, hex_pairs, hex_text, fill_byte, changed}
 
 pub pairs_length : (s : List ℕ) → length (hex_pairs s) ≡ 2 * length s
 unfolding hex_pairs
@@ -80,9 +81,27 @@ put_then {s} {t} {at} {m} {r} {a} p q h = record {
   laid = q.laid ∙ rw (p.laid, p.next) (lay_join a at s t (omega (arith, p.next)));
 }
 
+-- the same in an output
+pub written_then : {s t : List ℕ} {a b c : Out} → Written s a b → Written t b c → b.used ≤ length b.bytes.now → Written (s ++ t) a c
+written_then p q h = record {
+  put = put_then p.put q.put (omega (arith, h, p.stays.long));
+  stays = record { long = q.stays.long ∙ p.stays.long; same = q.stays.same ∙ p.stays.same };
+}
+
+-- the room that a text leaves
+pub written_room : (room : ℕ) {s : List ℕ} {a b : Out} → Written s a b → a.used + length s + room ≤ length a.bytes.now
+    → b.used + room ≤ length b.bytes.now
+written_room room w h = omega (arith, w.put.next, w.stays.long, h)
+
 -- a text is laid in one way
 pub put_once : (text : List ℕ) (at r r' : ℕ) (a b b' : List ℕ) → Put text at r a b → Put text at r' a b' → (r ≡ r') × (b ≡ b')
 put_once text at r r' a b b' p q = (p.next ∙ sym q.next, p.laid ∙ sym q.laid)
+
+pub written_once : (text : List ℕ) (a b b' : Out) → Written text a b → Written text a b'
+    → (b.used ≡ b'.used) × (b.bytes.now ≡ b'.bytes.now) × (b.bytes.ghost_name ≡ b'.bytes.ghost_name)
+written_once text a b b' p q =
+    let o = put_once text a.used b.used b'.used a.bytes.now b.bytes.now b'.bytes.now p.put q.put in
+    (o.0, o.1, p.stays.same ∙ sym q.stays.same)
 
 -- no text
 pub put_none : (at : ℕ) (a : List ℕ) → Put [] at at a a

@@ -2,11 +2,22 @@
 use Rattle.std.specs.Prelude.{◌≡◌, Bool, true, false, List, [], ◌∷◌, ◌++◌, ℕ, zero, suc, ◌+◌, ◌/◌, ◌%◌, eqb, ltb, length}
 use Rattle.lists.specs.Below.{pick, either}
 use Rattle.wire.specs.Laid.{lay}
+use Rattle.line.specs.declared.Out.{Out}
 
 -- a text was laid at a place, and the place after it is told
 pub record Put (text : List ℕ) (at r : ℕ) (before after : List ℕ) : Type 0 where
   pub next : r ≡ at + length text
   pub laid : after ≡ lay before at text
+
+-- an output is as long as before, and its bytes are lent from the same place
+pub record Stays (before after : Out) : Type 0 where
+  pub long : length after.bytes.now ≡ length before.bytes.now
+  pub same : after.bytes.ghost_name ≡ before.bytes.ghost_name
+
+-- a text was laid in an output after the bytes in use, and is in use too
+pub record Written (text : List ℕ) (before after : Out) : Type 0 where
+  pub put : Put text before.used after.used before.bytes.now after.bytes.now
+  pub stays : Stays before after
 
 -- a number in decimal digits without leading zeros, of so many at most
 unfoldable pub numeral : ℕ → ℕ → List ℕ

@@ -51,3 +51,10 @@ pub struct Place {
     pub catalogue: usize,
     pub used: usize,
 }
+
+// An output that answers are laid in one after the other, and how many of its bytes are in use.
+#[derive(Drop)]
+pub struct Out<'a> {
+    pub bytes: &'a mut [u8],
+    pub used: usize,
+}

@@ -4,10 +4,10 @@
 
 ghost use Rattle.std.specs.Prelude.{◌≡◌, ◌++◌, ◌+◌, ◌*◌, ◌/◌, ◌≤◌, length, take, drop};
 ghost use Rattle.line.specs.DigitsTold.{Loaded};
-ghost use Rattle.line.specs.Text.{Put, decimal_text, hex_text, changed};
+ghost use Rattle.line.specs.Text.{Written, decimal_text, hex_text, changed};
 ghost use Rattle.line.specs.Answer.{reason_text, error_text, connect_text, open_text, end_text, message_text, plain};
 
-use line::Reason;
+use line::{Out, Reason};
 use line_text::{put, put_decimal, put_hex};
 use table::Handle;
 
@@ -27,74 +27,74 @@ fn words(reason: Reason) -> &'static [u8]
 }
 
 // A word and a number.
-fn put_number(out: &mut [u8], at: usize, word: &[u8], value: u64) -> usize
-    requires { at + length word.now + 20 ≤ length out.old }
-    ensures { Put (word.now ++ decimal_text value) at result out.old out.new }
+fn put_number(out: &mut Out, word: &[u8], value: u64)
+    requires { out.old.used + length word.now + 20 ≤ length out.old.bytes.now }
+    ensures { Written (word.now ++ decimal_text value) out.old out.new }
 {
-    let number = put(out, at, word);
-    put_decimal(out, number, value)
+    put(out, word);
+    put_decimal(out, value);
 }
 
 // `error LINE` and the reason.
-pub fn put_error(out: &mut [u8], used: usize, line: u64, reason: Reason) -> usize
-    requires { used + plain ≤ length out.old }
-    ensures { Put (error_text line reason) used result out.old out.new }
+pub fn put_error(out: &mut Out, line: u64, reason: Reason)
+    requires { out.old.used + plain ≤ length out.old.bytes.now }
+    ensures { Written (error_text line reason) out.old out.new }
 {
-    let space = put_number(out, used, b"error ", line);
-    let text = put(out, space, b" ");
-    let end = put(out, text, words(reason));
-    put(out, end, b"\n")
+    put_number(out, b"error ", line);
+    put(out, b" ");
+    put(out, words(reason));
+    put(out, b"\n");
 }
 
 // `connect REFUSAL`
-pub fn put_connect(out: &mut [u8], used: usize, refusal: u32) -> usize
-    requires { used + plain ≤ length out.old }
-    ensures { Put (connect_text refusal) used result out.old out.new }
+pub fn put_connect(out: &mut Out, refusal: u32)
+    requires { out.old.used + plain ≤ length out.old.bytes.now }
+    ensures { Written (connect_text refusal) out.old out.new }
 {
-    let end = put_number(out, used, b"connect ", refusal as u64);
-    put(out, end, b"\n")
+    put_number(out, b"connect ", refusal as u64);
+    put(out, b"\n");
 }
 
 // `open REFUSAL HANDLE`
-pub fn put_open(out: &mut [u8], used: usize, refusal: u32, handle: Handle) -> usize
-    requires { used + plain ≤ length out.old }
-    ensures { Put (open_text refusal handle.0) used result out.old out.new }
+pub fn put_open(out: &mut Out, refusal: u32, handle: Handle)
+    requires { out.old.used + plain ≤ length out.old.bytes.now }
+    ensures { Written (open_text refusal handle.0) out.old out.new }
 {
-    let space = put_number(out, used, b"open ", refusal as u64);
-    let end = put_number(out, space, b" ", handle.0 as u64);
-    put(out, end, b"\n")
+    put_number(out, b"open ", refusal as u64);
+    put_number(out, b" ", handle.0 as u64);
+    put(out, b"\n");
 }
 
 // ` spilled` where a byte past the count changed, and the line's end.
-fn put_end(out: &mut [u8], at: usize, reply: &[u8], count: usize) -> usize
-    requires { at + 9 ≤ length out.old }
-    ensures { Put (end_text (changed (drop count reply.now))) at result out.old out.new }
+fn put_end(out: &mut Out, reply: &[u8], count: usize)
+    requires { out.old.used + 9 ≤ length out.old.bytes.now }
+    ensures { Written (end_text (changed (drop count reply.now))) out.old out.new }
 {
     if line_text::spilled(reply, count) {
-        put(out, at, b" spilled\n")
+        put(out, b" spilled\n");
     } else {
-        put(out, at, b"\n")
+        put(out, b"\n");
     }
 }
 
 // The first bytes of a reply.
-fn put_first(out: &mut [u8], at: usize, reply: &[u8], count: usize) -> usize
-    requires { (at + 2 * length reply.now + 1 ≤ length out.old) × (count ≤ length reply.now) }
-    ensures { Put (hex_text (take count reply.now)) at result out.old out.new }
+fn put_first(out: &mut Out, reply: &[u8], count: usize)
+    requires { (out.old.used + 2 * length reply.now + 1 ≤ length out.old.bytes.now) × (count ≤ length reply.now) }
+    ensures { Written (hex_text (take count reply.now)) out.old out.new }
 {
-    put_hex(out, at, &reply[..count])
+    put_hex(out, &reply[..count]);
 }
 
 // `message REFUSAL COUNT HEX`
-pub fn put_message(out: &mut [u8], used: usize, refusal: u32, reply: &[u8], count: usize) -> usize
-    requires { (used + 2 * length reply.now + plain ≤ length out.old) × (count ≤ length reply.now) }
-    ensures { Put (message_text refusal count reply.now) used result out.old out.new }
+pub fn put_message(out: &mut Out, refusal: u32, reply: &[u8], count: usize)
+    requires { (out.old.used + 2 * length reply.now + plain ≤ length out.old.bytes.now) × (count ≤ length reply.now) }
+    ensures { Written (message_text refusal count reply.now) out.old out.new }
 {
-    let space = put_number(out, used, b"message ", refusal as u64);
-    let gap = put_number(out, space, b" ", count as u64);
-    let hex = put(out, gap, b" ");
-    let end = put_first(out, hex, reply, count);
-    put_end(out, end, reply, count)
+    put_number(out, b"message ", refusal as u64);
+    put_number(out, b" ", count as u64);
+    put(out, b" ");
+    put_first(out, reply, count);
+    put_end(out, reply, count);
 }
 
 // The bytes that a part of the line spells. Answers how many they are.

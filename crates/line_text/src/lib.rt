@@ -1,27 +1,29 @@
-// The text of answers: words, numbers and hex digits, laid in a buffer one after the other. Each writer answers the place after
-// what it laid.
+// The text of answers: words, numbers and hex digits, laid in an output one after the other.
 #![tactic(auto)]
 
 ghost use Rattle.std.specs.Prelude.{◌≡◌, ◌+◌, ◌*◌, ◌≤◌, ◌<◌, length, take, drop, replicate};
-ghost use Rattle.line.specs.Text.{Put, decimal_text, glyph, hex_pairs, hex_text, fill_byte, changed};
+ghost use Rattle.wire.specs.Laid.{lay};
+ghost use Rattle.line.specs.Text.{Written, decimal_text, glyph, hex_pairs, hex_text, fill_byte, changed};
+
+use line::Out;
 
 // A text.
-pub fn put(out: &mut [u8], at: usize, text: &[u8]) -> usize
-    requires { at + length text.now ≤ length out.old }
-    ensures { Put text.now at result out.old out.new }
+pub fn put(out: &mut Out, text: &[u8])
+    requires { out.old.used + length text.now ≤ length out.old.bytes.now }
+    ensures { Written text.now out.old out.new }
 {
-    wire_copy::lay_bytes(out, at, text);
-    at + text.len()
+    wire_copy::lay_bytes(out.bytes, out.used, text);
+    out.used += text.len();
 }
 
 // A number in decimal digits.
-pub fn put_decimal(out: &mut [u8], at: usize, value: u64) -> usize
-    requires { at + 20 ≤ length out.old }
-    ensures { Put (decimal_text value) at result out.old out.new }
+pub fn put_decimal(out: &mut Out, value: u64)
+    requires { out.old.used + 20 ≤ length out.old.bytes.now }
+    ensures { Written (decimal_text value) out.old out.new }
 {
     let mut text = [0u8; 20];
     let count = io::decimal(value, &mut text);
-    put(out, at, &text[..count])
+    put(out, &text[..count]);
 }
 
 // A hex digit, in upper case.
@@ -36,28 +38,29 @@ fn digit(value: u8) -> u8
     }
 }
 
-// Two hex digits for each byte.
-fn put_pairs(out: &mut [u8], at: usize, bytes: &[u8]) -> usize
+// Two hex digits for each byte, laid at a place. The bytes of the output are lent alone: a loop that reaches them through the
+// writer takes more steps.
+fn lay_pairs(out: &mut [u8], at: usize, bytes: &[u8])
     requires { at + 2 * length bytes.now ≤ length out.old }
-    ensures { Put (hex_pairs bytes.now) at result out.old out.new }
+    ensures { out.new ≡ lay out.old at (hex_pairs bytes.now) }
 {
     for (i, byte) in bytes.iter().enumerate() {
         let to = at + 2 * i;
         out[to] = digit(byte / 16);
         out[to + 1] = digit(byte % 16);
     }
-    at + 2 * bytes.len()
 }
 
 // The bytes in hex digits, or `-` for none.
-pub fn put_hex(out: &mut [u8], at: usize, bytes: &[u8]) -> usize
-    requires { at + 2 * length bytes.now + 1 ≤ length out.old }
-    ensures { Put (hex_text bytes.now) at result out.old out.new }
+pub fn put_hex(out: &mut Out, bytes: &[u8])
+    requires { out.old.used + 2 * length bytes.now + 1 ≤ length out.old.bytes.now }
+    ensures { Written (hex_text bytes.now) out.old out.new }
 {
     if bytes.is_empty() {
-        put(out, at, b"-")
+        put(out, b"-");
     } else {
-        put_pairs(out, at, bytes)
+        lay_pairs(out.bytes, out.used, bytes);
+        out.used += 2 * bytes.len();
     }
 }
 

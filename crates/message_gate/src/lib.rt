@@ -1,10 +1,11 @@
 // What every message is judged by: its kind, refusals 6 to 8, and the reply of a refusal with its status.
 #![tactic(auto)]
 
-ghost use Rattle.std.specs.Prelude.{◌≡◌, ◌≤◌, length};
+ghost use Rattle.std.specs.Prelude.{◌≡◌, ◌≤◌, ◌<◌, length};
 ghost use Rattle.refusal.specs.Refusal.{status_of, first_cause};
 ghost use Rattle.refusal.specs.Numbers.{refusal_number};
 ghost use Rattle.wire.specs.Header.{header_size, message_most};
+ghost use Rattle.wire.specs.Laid.{lay, four_words};
 ghost use Rattle.table.specs.Seat.{seat_of};
 ghost use Rattle.message.specs.Message.{kind_number, kind_of, tested, msg_of, gate_causes, count_of};
 ghost use Rattle.message.specs.AnswerTold.{kind_at, gated, Refuses};
@@ -18,18 +19,19 @@ const STATUSES: [u32; 17] = [
     0x80040E08, 0xC00000BB, 0xC000009A, 0xC0000023, 0xC000000D,
 ];
 
-fn number(refusal: Refusal) -> usize
+// The number of a refusal.
+fn number(refusal: Refusal) -> u32
     ensures { result ≡ refusal_number refusal }
 {
-    refusal as usize
+    refusal as u32
 }
 
-// The status of a refusal.
-fn status(refusal: Refusal) -> u32
-    ensures { result ≡ status_of (refusal_number refusal) }
+// The status of the refusal that has a number.
+fn status(number: u32) -> u32
+    requires { number < 17 }
+    ensures { result ≡ status_of number }
 {
-    let at = number(refusal);
-    STATUSES[at]
+    STATUSES[number as usize]
 }
 
 // A message that is served: its number, its kind, and whether its checksum is tested.
@@ -108,13 +110,22 @@ pub fn gate(
     }
 }
 
+// The header with the status of the refusal that has a number. Answers the count of its bytes.
+pub fn lay_refusal(reply: &mut [u8], msg: u32, number: u32) -> u32
+    requires { (header_size ≤ length reply.old) × (number < 17) }
+    ensures { (result ≡ 16) × (reply.new ≡ lay reply.old 0 (four_words msg (status_of number) 0 0)) }
+{
+    wire_lay_word::lay_header(reply, msg, status(number));
+    wire::HEADER_SIZE as u32
+}
+
 // A refusal from 6 on: the header with its status.
+#[tactic(auto, using(refusal::proofs::Numbers::number_most))]
 pub fn refuse(reply: &mut [u8], msg: u32, refusal: Refusal) -> Result<u32, Refusal>
     requires { header_size ≤ length reply.old }
     ensures { Refuses msg refusal result reply.old reply.new }
 {
-    let sent = status(refusal);
-    wire_lay_word::lay_header(reply, msg, sent);
+    lay_refusal(reply, msg, number(refusal));
     Err(refusal)
 }
 

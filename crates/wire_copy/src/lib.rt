@@ -5,8 +5,8 @@ ghost use Rattle.std.specs.Prelude.{◌≡◌, ◌+◌, ◌≤◌, length};
 ghost use Rattle.lists.specs.Parts.{part};
 ghost use Rattle.wire.specs.Laid.{lay};
 
-// A copy of bytes, one at a time.
-fn lay_few(reply: &mut [u8], at: usize, bytes: &[u8])
+// A copy of a few bytes, one at a time: where their count is known, the compiler makes it one store.
+pub fn lay_few(reply: &mut [u8], at: usize, bytes: &[u8])
     requires { at + length bytes.now ≤ length reply.old }
     ensures { reply.new ≡ lay reply.old at bytes.now }
 {

@@ -5,22 +5,12 @@ ghost use Rattle.std.specs.Prelude.{◌≡◌, ◌+◌, ◌≤◌, length};
 ghost use Rattle.wire.specs.Word.{le};
 ghost use Rattle.wire.specs.Laid.{lay, four_words, header};
 
-// So many bytes at a place.
-fn lay_array<const N: usize>(reply: &mut [u8], at: usize, bytes: &[u8; N])
-    requires { at + N ≤ length reply.old }
-    ensures { reply.new ≡ lay reply.old at bytes.now }
-{
-    for (i, byte) in bytes.iter().enumerate() {
-        reply[at + i] = *byte;
-    }
-}
-
 // The low 16 bits of a number, low byte first.
 pub fn lay_half(reply: &mut [u8], at: usize, value: u64)
     requires { at + 2 ≤ length reply.old }
     ensures { reply.new ≡ lay reply.old at (le 2 value) }
 {
-    lay_array(reply, at, &((value % 0x1_0000) as u16).to_le_bytes());
+    wire_copy::lay_few(reply, at, &((value % 0x1_0000) as u16).to_le_bytes());
 }
 
 // The low 32 bits.
@@ -28,7 +18,7 @@ pub fn lay_word(reply: &mut [u8], at: usize, value: u64)
     requires { at + 4 ≤ length reply.old }
     ensures { reply.new ≡ lay reply.old at (le 4 value) }
 {
-    lay_array(reply, at, &((value % 0x1_0000_0000) as u32).to_le_bytes());
+    wire_copy::lay_few(reply, at, &((value % 0x1_0000_0000) as u32).to_le_bytes());
 }
 
 // All 64 bits.
@@ -36,7 +26,7 @@ pub fn lay_long(reply: &mut [u8], at: usize, value: u64)
     requires { at + 8 ≤ length reply.old }
     ensures { reply.new ≡ lay reply.old at (le 8 value) }
 {
-    lay_array(reply, at, &value.to_le_bytes());
+    wire_copy::lay_few(reply, at, &value.to_le_bytes());
 }
 
 // Four 32-bit words in a row.

@@ -7,55 +7,45 @@ use lib.Seq.{length-take-le}
 use Rattle.line.specs.Line.{message_name}
 use Rattle.line.specs.Answer.{space, message_text}
 use Rattle.line.proofs.Short.{room_after}
-use Rattle.line.proofs.TextLaws.{hex_short, put_then}
+use Rattle.line.proofs.TextLaws.{hex_short, written_room, written_then}
 use Rattle.line_answer.proofs.put_message.Goals as goal
 
-pub put_number-gap-requires : goal.put_number-gap-requires
-put_number-gap-requires c =
-    let one = c.put_number-space in
-    let first = room_after c.args.refusal (2 * length c.args.reply.now + 32) (message_name ++ space) one.ensures (omega (arith, c.requires.0)) one.auto.out in
+pub put_number-requires-2 : goal.put_number-requires-2
+put_number-requires-2 c =
+    let first = room_after c.args.refusal (2 * length c.args.reply.now + 32) (message_name ++ space) c.put_number.ensures (omega (arith, c.requires.0)) in
     omega (arith, first)
 
-pub put-hex-requires : goal.put-hex-requires
-put-hex-requires c =
-    let one = c.put_number-space in
-    let first = room_after c.args.refusal (2 * length c.args.reply.now + 32) (message_name ++ space) one.ensures (omega (arith, c.requires.0)) one.auto.out in
-    let two = c.put_number-gap in
-    let second = room_after c.args.count (2 * length c.args.reply.now + 11) (space) two.ensures (omega (arith, first)) two.auto.out in
+pub put-requires : goal.put-requires
+put-requires c =
+    let first = room_after c.args.refusal (2 * length c.args.reply.now + 32) (message_name ++ space) c.put_number.ensures (omega (arith, c.requires.0)) in
+    let second = room_after c.args.count (2 * length c.args.reply.now + 11) space c.put_number-2.ensures (omega (arith, first)) in
     omega (arith, second)
 
-pub put_first-end-requires : goal.put_first-end-requires
-put_first-end-requires c =
-    let one = c.put_number-space in
-    let first = room_after c.args.refusal (2 * length c.args.reply.now + 32) (message_name ++ space) one.ensures (omega (arith, c.requires.0)) one.auto.out in
-    let two = c.put_number-gap in
-    let second = room_after c.args.count (2 * length c.args.reply.now + 11) (space) two.ensures (omega (arith, first)) two.auto.out in
-    let three = c.put-hex in
-    (omega (arith, second, three.ensures.next, three.auto.out), c.requires.1)
+pub put_first-requires : goal.put_first-requires
+put_first-requires c =
+    let first = room_after c.args.refusal (2 * length c.args.reply.now + 32) (message_name ++ space) c.put_number.ensures (omega (arith, c.requires.0)) in
+    let second = room_after c.args.count (2 * length c.args.reply.now + 11) space c.put_number-2.ensures (omega (arith, first)) in
+    let third = written_room (2 * length c.args.reply.now + 10) c.put.ensures (omega (arith, second)) in
+    (omega (arith, third), c.requires.1)
 
 pub put_end-requires : goal.put_end-requires
 put_end-requires c =
-    let one = c.put_number-space in
-    let first = room_after c.args.refusal (2 * length c.args.reply.now + 32) (message_name ++ space) one.ensures (omega (arith, c.requires.0)) one.auto.out in
-    let two = c.put_number-gap in
-    let second = room_after c.args.count (2 * length c.args.reply.now + 11) (space) two.ensures (omega (arith, first)) two.auto.out in
-    let three = c.put-hex in
-    let four = c.put_first-end in
-    omega (arith, second, three.ensures.next, three.auto.out, four.ensures.next, four.auto.out, hex_short (take c.args.count c.args.reply.now), length-take-le c.args.count c.args.reply.now c.requires.1)
+    let first = room_after c.args.refusal (2 * length c.args.reply.now + 32) (message_name ++ space) c.put_number.ensures (omega (arith, c.requires.0)) in
+    let second = room_after c.args.count (2 * length c.args.reply.now + 11) space c.put_number-2.ensures (omega (arith, first)) in
+    let third = written_room (2 * length c.args.reply.now + 10) c.put.ensures (omega (arith, second)) in
+    written_room 9 c.put_first.ensures (omega (arith, third, hex_short (take c.args.count c.args.reply.now), length-take-le c.args.count c.args.reply.now c.requires.1))
 
 pub returns : goal.returns
 unfolding message_text
 returns c =
-    let one = c.put_number-space in
-    let first = room_after c.args.refusal (2 * length c.args.reply.now + 32) (message_name ++ space) one.ensures (omega (arith, c.requires.0)) one.auto.out in
-    let two = c.put_number-gap in
-    let second = room_after c.args.count (2 * length c.args.reply.now + 11) (space) two.ensures (omega (arith, first)) two.auto.out in
-    let three = c.put-hex in
-    let four = c.put_first-end in
-    put_then one.ensures
-    (put_then two.ensures
-    (put_then three.ensures
-    (put_then four.ensures c.put_end.ensures (omega (arith, second, three.ensures.next, three.auto.out, four.ensures.next, hex_short (take c.args.count c.args.reply.now), length-take-le c.args.count c.args.reply.now c.requires.1)))
-    (omega (arith, second, three.ensures.next)))
-    (omega (arith, second, two.auto.out)))
-    (omega (arith, first, one.auto.out))
+    let first = room_after c.args.refusal (2 * length c.args.reply.now + 32) (message_name ++ space) c.put_number.ensures (omega (arith, c.requires.0)) in
+    let second = room_after c.args.count (2 * length c.args.reply.now + 11) space c.put_number-2.ensures (omega (arith, first)) in
+    let third = written_room (2 * length c.args.reply.now + 10) c.put.ensures (omega (arith, second)) in
+    let fourth = written_room 9 c.put_first.ensures (omega (arith, third, hex_short (take c.args.count c.args.reply.now), length-take-le c.args.count c.args.reply.now c.requires.1)) in
+    written_then c.put_number.ensures
+    (written_then c.put_number-2.ensures
+    (written_then c.put.ensures
+    (written_then c.put_first.ensures c.put_end.ensures (omega (arith, fourth)))
+    (omega (arith, third)))
+    (omega (arith, second)))
+    (omega (arith, first))

@@ -1,7 +1,7 @@
 -- The number stands after the word. Assumes nothing.
 use native.Mathlib.Omega.{arith}
-use Rattle.line.proofs.TextLaws.{put_then}
+use Rattle.line.proofs.TextLaws.{written_room, written_then}
 use Rattle.line_answer.proofs.put_number.Goals as goal
 
 pub returns : goal.returns
-returns c = put_then c.put-number.ensures c.put_decimal.ensures (omega (arith, c.put-number.ensures.next, c.requires))
+returns c = written_then c.put.ensures c.put_decimal.ensures (omega (arith, written_room 20 c.put.ensures (omega (arith, c.requires))))

@@ -7,4 +7,4 @@ use Rattle.wire_lay_word.proofs.lay_word.Goals as goal
 pub returns : goal.returns
 returns c =
     let a = c.args in
-    c.lay_array.ensures ∙ ap (lay a.reply.now a.at) (c.to_le_bytes.ensures ∙ bytes_le 4 a.value)
+    c.lay_few.ensures ∙ ap (lay a.reply.now a.at) (c.to_le_bytes.ensures ∙ bytes_le 4 a.value)

@@ -10,11 +10,11 @@ returns-in-Ok c =
     let n = length c.args.space.now in
     let k = rw c.fill.auto.reply at c.in-Ok.ensures in
     let q = c.count-count.ensures ∙ ap count_of c.in-Ok.is in
-    served_message c.args.used c.put_message.result _ _ _ _ _ _ _ n _ _ c.requires.0 c.fill.ensures k c.message-answered.auto.reply (rw q at c.put_message.ensures)
+    served_message _ _ _ _ _ _ _ n _ _ c.requires.0 c.fill.ensures k c.message-answered.auto.reply (rw q at c.put_message.ensures)
 
 pub returns-in-Err : goal.returns-in-Err
 returns-in-Err c =
     let n = length c.args.space.now in
     let k = rw c.fill.auto.reply at c.in-Err.ensures in
     let q = c.count-count.ensures ∙ ap count_of c.in-Err.is in
-    served_message c.args.used c.put_message-in-Err.result _ _ _ _ _ _ _ n _ _ c.requires.0 c.fill.ensures k c.message-answered.auto.reply (rw (c.number_of-refusal.ensures, q) at c.put_message-in-Err.ensures)
+    served_message _ _ _ _ _ _ _ n _ _ c.requires.0 c.fill.ensures k c.message-answered.auto.reply (rw (c.number_of-refusal.ensures, q) at c.put_message-in-Err.ensures)

@@ -6,7 +6,7 @@ use lib.ListN.{get_or}
 use Rattle.wire.proofs.Lay.{copied}
 use Rattle.line.specs.Text.{hex_pairs}
 use Rattle.line.proofs.TextLaws.{pairs_length, pair_high, pair_low, pasted_two}
-use Rattle.line_text.proofs.put_pairs.Goals as goal
+use Rattle.line_text.proofs.lay_pairs.Goals as goal
 
 pub loop-i-preserved : goal.loop-i-preserved
 loop-i-preserved c =
@@ -23,7 +23,4 @@ returns c =
     let l = c.loop-i in
     let a = c.args in
     let h = hex_pairs a.bytes.now in
-    record {
-      next = omega (arith, pairs_length a.bytes.now);
-      laid = l.invariant ∙ copied a.out.now a.at h (2 * l.i) (omega (arith, pairs_length a.bytes.now));
-    }
+    l.invariant ∙ copied a.out.now a.at h (2 * l.i) (omega (arith, pairs_length a.bytes.now))

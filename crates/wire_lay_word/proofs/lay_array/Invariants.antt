@@ -1,7 +1,0 @@
-use mathlib.Core.Path.{◌≡◌}
-use lib.ListN.{length}
-use lib.Seq.{paste}
-use Rattle.wire_lay_word.proofs.lay_array.Given as goal
-
-abbrev pub invariant-loop-i : goal.invariant-loop-i
-invariant-loop-i g l = (length l.reply ≡ length l.initial.reply) × (l.reply ≡ paste l.initial.reply l.at l.bytes l.i)
