@@ -1,7 +1,6 @@
 -- The body of CPMSetBindingsIn by places, which the code follows (01, "Bindings": "_hCursor, _cbRow, _cbBindingDesc, _dummy, cColumns,
 -- columns").
-use Rattle.std.specs.Prelude.{List, [], ℕ, zero, suc, ◌-◌, leb, eqb, length}
-use Rattle.std.specs.Prelude.{Option, None, Some}
+use Rattle.std.specs.Prelude.{List, [], ℕ, zero, suc, ◌-◌, leb, eqb, length, Option, None, Some}
 use Rattle.lists.specs.Below.{pick}
 use Rattle.wire.specs.Word.{number_at}
 use Rattle.bindings.specs.declared.Column.{Column}

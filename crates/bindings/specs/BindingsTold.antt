@@ -1,6 +1,5 @@
 -- What the reader of a message answers, and the words that it leaves.
-use Rattle.std.specs.Prelude.{◌≡◌, List, ℕ, length}
-use Rattle.std.specs.Prelude.{Option, None, Some}
+use Rattle.std.specs.Prelude.{◌≡◌, List, ℕ, length, Option, None, Some}
 use Rattle.bindings.specs.Column.{no_words, words_of}
 use Rattle.bindings.specs.Plain.{Bindings, bindings}
 use Rattle.bindings.specs.declared.BindingsRead.{BindingsRead}

@@ -1,7 +1,6 @@
 -- A column in a message by places, counted from the message's first byte (source, CTableColumn): what the code follows.
 -- Each reader gives what it read and the place after it, or nothing where the body is malformed (01, refusal 9).
-use Rattle.std.specs.Prelude.{List, ℕ, eqb}
-use Rattle.std.specs.Prelude.{Option, Some}
+use Rattle.std.specs.Prelude.{List, ℕ, eqb, Option, Some}
 use Rattle.lists.specs.Below.{pick}
 use Rattle.bindings.specs.declared.Value.{Value}
 use Rattle.bindings.specs.declared.Spot.{Spot}

@@ -1,7 +1,6 @@
 -- The message that sets bindings as a plain parser, which takes the bytes apart from the front. A reader has the bytes that are left
 -- and the place of the first of them, counted from the message's first byte; it gives what it read, and both for what follows.
-use Rattle.std.specs.Prelude.{List, [], ◌∷◌, ℕ, zero, suc, ◌+◌, leb, eqb, length, take, drop}
-use Rattle.std.specs.Prelude.{Option, None, Some}
+use Rattle.std.specs.Prelude.{List, [], ◌∷◌, ℕ, zero, suc, ◌+◌, leb, eqb, length, take, drop, Option, None, Some}
 use Rattle.lists.specs.Below.{pick}
 use Rattle.lists.specs.Options.{and_then}
 use Rattle.wire.specs.Header.{header_size}

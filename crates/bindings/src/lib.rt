@@ -43,23 +43,6 @@ pub const ROOM_WORDS: usize = 45;
 
 pub const ROW_MOST: u32 = 4096;
 
-// Where the words of a column stand in its record; its property is the first of them.
-pub const VTYPE: usize = 1;
-
-pub const VALUE_USED: usize = 2;
-
-pub const VALUE_OFFSET: usize = 3;
-
-pub const VALUE_SIZE: usize = 4;
-
-pub const STATUS_USED: usize = 5;
-
-pub const STATUS_OFFSET: usize = 6;
-
-pub const LENGTH_USED: usize = 7;
-
-pub const LENGTH_OFFSET: usize = 8;
-
 // What a message holds, but for its columns.
 #[derive(Clone, Copy)]
 pub struct BindingsRead {

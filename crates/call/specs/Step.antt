@@ -1,6 +1,5 @@
 -- What a call does: a step from the sources and the table to an outcome.
-use Rattle.std.specs.Prelude.{◌≡◌, Bool, true, false, not, List, [], ◌∷◌, ◌++◌, ℕ, ltb, eqb, length, drop}
-use Rattle.std.specs.Prelude.{Option, None, Some, Result}
+use Rattle.std.specs.Prelude.{◌≡◌, Bool, true, false, not, List, [], ◌∷◌, ◌++◌, ℕ, ltb, eqb, length, drop, Option, None, Some, Result}
 use Rattle.lists.specs.Below.{pick}
 use Rattle.wire.specs.Checksum.{message_sized}
 use Rattle.catalogue.specs.Plain.{Row, catalogue, rows_of}

@@ -1,6 +1,5 @@
 -- The catalogue of 01's whole case, as bytes and as rows.
-use Rattle.std.specs.Prelude.{List, [], ◌∷◌, ℕ}
-use Rattle.std.specs.Prelude.{None, Some}
+use Rattle.std.specs.Prelude.{List, [], ◌∷◌, ℕ, None, Some}
 use Rattle.catalogue.specs.Plain.{Row}
 
 abbrev pub case_bytes : List ℕ

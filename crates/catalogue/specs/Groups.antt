@@ -1,7 +1,6 @@
 -- Numbers in groups of seven bits (01, "The option catalogue": "Every number is in groups of seven bits, least first, top bit
 -- set on all groups but the last, shortest form only, at most 4,294,967,295").
-use Rattle.std.specs.Prelude.{List, [], ◌∷◌, ℕ, zero, suc, ◌+◌, ◌-◌, ◌*◌, ◌/◌, ◌%◌, leb, ltb, eqb, drop}
-use Rattle.std.specs.Prelude.{Option, None, Some}
+use Rattle.std.specs.Prelude.{List, [], ◌∷◌, ℕ, zero, suc, ◌+◌, ◌-◌, ◌*◌, ◌/◌, ◌%◌, leb, ltb, eqb, drop, Option, None, Some}
 use Rattle.lists.specs.Below.{pick}
 
 -- a group and what the groups after it hold: their value and their count. "Shortest form only": the groups after it

@@ -1,6 +1,5 @@
 -- Reading a number at a place: the value and the place after it.
-use Rattle.std.specs.Prelude.{List, ℕ, ◌+◌, drop}
-use Rattle.std.specs.Prelude.{Option, None, Some}
+use Rattle.std.specs.Prelude.{List, ℕ, ◌+◌, drop, Option, None, Some}
 use Rattle.catalogue.specs.Groups.{groups, within}
 
 -- a value with its count of bytes, from a place on

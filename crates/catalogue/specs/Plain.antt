@@ -1,7 +1,6 @@
 -- The plain parser of the option catalogue (01, "The option catalogue"): a list of bytes to rows, or to nothing. Each reader
 -- takes a list apart and gives what it read with the bytes after it.
-use Rattle.std.specs.Prelude.{Bool, not, List, [], ◌∷◌, ℕ, zero, suc, ◌*◌, leb, eqb, length, get_or, take, drop}
-use Rattle.std.specs.Prelude.{Option, None, Some}
+use Rattle.std.specs.Prelude.{Bool, not, List, [], ◌∷◌, ℕ, zero, suc, ◌*◌, leb, eqb, length, get_or, take, drop, Option, None, Some}
 use Rattle.lists.specs.Below.{pick, both, every_below}
 use Rattle.lists.specs.Options.{and_then}
 use Rattle.wire.specs.Word.{halves}

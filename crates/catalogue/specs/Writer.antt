@@ -1,6 +1,5 @@
 -- The writer of the option catalogue, the plain parser's other half: what parses is exactly what it writes.
-use Rattle.std.specs.Prelude.{List, [], ◌∷◌, ◌++◌, ℕ, ◌+◌, ◌≤◌, ◌<◌, length, get_or}
-use Rattle.std.specs.Prelude.{Option, None, Some}
+use Rattle.std.specs.Prelude.{List, [], ◌∷◌, ◌++◌, ℕ, ◌+◌, ◌≤◌, ◌<◌, length, get_or, Option, None, Some}
 use Rattle.wire.specs.Word.{le}
 use Rattle.catalogue.specs.Groups.{written}
 use Rattle.catalogue.specs.Limits.{rows_most, key_most, number_most, size_most, bytes_most}

@@ -1,6 +1,5 @@
 -- What is known before rows are fetched.
-use Rattle.std.specs.Prelude.{◌≡◌, true, List, ℕ, ◌≤◌, length}
-use Rattle.std.specs.Prelude.{Some}
+use Rattle.std.specs.Prelude.{◌≡◌, true, List, ℕ, ◌≤◌, length, Some}
 use Rattle.catalogue.specs.Plain.{catalogue, rows_of}
 use Rattle.catalogue.specs.CatalogueReady.{PlacesReady}
 use Rattle.table.specs.Seat.{cursor_words, cursor_held}

@@ -1,6 +1,5 @@
 -- What fetching rows answers, and what it leaves of a cursor's words and of a reply buffer.
-use Rattle.std.specs.Prelude.{◌≡◌, List, ◌++◌, ℕ, drop}
-use Rattle.std.specs.Prelude.{Some, Result}
+use Rattle.std.specs.Prelude.{◌≡◌, List, ◌++◌, ℕ, drop, Some, Result}
 use Rattle.catalogue.specs.Plain.{catalogue, rows_of, Row}
 use Rattle.table.specs.Seat.{cursor_words, cursor_held, Cursor}
 use Rattle.fetch.specs.declared.Request.{Request}

@@ -1,7 +1,6 @@
 -- The body of a request for rows (01, "Rows"): "_hCursor, _cRowsToTransfer, _cbRowWidth, _cbSeek, _cbReserved, _cbReadBuffer,
 -- _ulClientBase, _fBwdFetch, eType, _chapt, seek". Places count from the message's first byte, so the body begins at 16.
-use Rattle.std.specs.Prelude.{Bool, true, List, ℕ, ◌+◌, ◌%◌, ◌≤◌, leb, eqb, length}
-use Rattle.std.specs.Prelude.{Option, None, Some}
+use Rattle.std.specs.Prelude.{Bool, true, List, ℕ, ◌+◌, ◌%◌, ◌≤◌, leb, eqb, length, Option, None, Some}
 use Rattle.lists.specs.Below.{pick, both}
 use Rattle.wire.specs.Word.{number_at}
 use Rattle.fetch.specs.declared.Request.{Request}

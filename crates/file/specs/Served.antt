@@ -1,7 +1,6 @@
 -- What a line of a calls file does (README, "Replaying recorded calls"): the answer's text, the table afterwards, and the catalogue that
 -- is lent from there on.
-use Rattle.std.specs.Prelude.{◌≡◌, false, List, [], ◌++◌, ℕ, ◌+◌, ◌/◌, ◌%◌, ◌≤◌, ◌*◌, length, take, drop, set}
-use Rattle.std.specs.Prelude.{Result, Ok, Err}
+use Rattle.std.specs.Prelude.{◌≡◌, false, List, [], ◌++◌, ℕ, ◌+◌, ◌/◌, ◌%◌, ◌≤◌, ◌*◌, length, take, drop, set, Result, Ok, Err}
 use Rattle.wire.specs.Laid.{lay}
 use Rattle.line.specs.Digits.{hex_bytes}
 use Rattle.line.specs.Line.{catalogue_most, room_most}

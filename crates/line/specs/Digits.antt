@@ -1,6 +1,5 @@
 -- Numbers and bytes of a calls file (README, "Replaying recorded calls").
-use Rattle.std.specs.Prelude.{Bool, true, false, List, [], ◌∷◌, ℕ, ◌+◌, ◌-◌, ◌*◌, ◌%◌, eqb, leb}
-use Rattle.std.specs.Prelude.{Option, None, Some, is_some, unwrap_or}
+use Rattle.std.specs.Prelude.{Bool, true, false, List, [], ◌∷◌, ℕ, ◌+◌, ◌-◌, ◌*◌, ◌%◌, eqb, leb, Option, None, Some, is_some, unwrap_or}
 use Rattle.lists.specs.Below.{pick, both}
 
 -- what digits spell that follow a value

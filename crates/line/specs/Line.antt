@@ -1,8 +1,7 @@
 -- The call that a line of a calls file is, its comment cut off, or why it is none (README, "Replaying recorded calls"). Words are
 -- judged from left to right, each fully before the next: that it is there, its form, its limit; and after the last, that no further word
 -- is there.
-use Rattle.std.specs.Prelude.{List, [], ◌∷◌, ℕ, ◌-◌, ◌/◌, eqb, ltb, length, Option}
-use Rattle.std.specs.Prelude.{Result, Ok, Err}
+use Rattle.std.specs.Prelude.{List, [], ◌∷◌, ℕ, ◌-◌, ◌/◌, eqb, ltb, length, Option, Result, Ok, Err}
 use Rattle.std.specs.Option.{ok_or}
 use Rattle.lists.specs.Below.{pick}
 use Rattle.line.specs.Runs.{word_start, word_end, same_bytes}

@@ -1,6 +1,5 @@
 -- An answer by its number (01: "When an answer is an enum, a definition gives this paper's number and values for each of its cases").
-use Rattle.std.specs.Prelude.{Option, None, Some}
-use Rattle.std.specs.Prelude.{ℕ}
+use Rattle.std.specs.Prelude.{Option, None, Some, ℕ}
 use Rattle.lists.specs.Options.{and_then}
 
 -- the number, and the values where there are some

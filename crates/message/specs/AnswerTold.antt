@@ -1,6 +1,5 @@
 -- What a message's function answers and leaves.
-use Rattle.std.specs.Prelude.{◌≡◌, Bool, not, List, [], ◌∷◌, ◌++◌, ℕ, length, drop, get_or}
-use Rattle.std.specs.Prelude.{Option, None, Some, Result, Err}
+use Rattle.std.specs.Prelude.{◌≡◌, Bool, not, List, [], ◌∷◌, ◌++◌, ℕ, length, drop, get_or, Option, None, Some, Result, Err}
 use Rattle.catalogue.specs.Plain.{Row}
 use Rattle.table.specs.Seat.{seat_words, seat_of}
 use Rattle.message.specs.Message.{SeatOutcome, seat_message, count_of}

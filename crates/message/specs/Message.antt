@@ -1,7 +1,6 @@
 -- What a message does to its seat (01, "Header and checksum", the refusal table, "Bindings", "Rows" and the paragraph on
 -- disconnect and free cursor).
-use Rattle.std.specs.Prelude.{Bool, true, false, not, List, [], ◌∷◌, ◌++◌, ℕ, zero, suc, ◌+◌, ◌*◌, leb, ltb, eqb, length, get_or}
-use Rattle.std.specs.Prelude.{Option, None, Some, Result, Ok, Err}
+use Rattle.std.specs.Prelude.{Bool, true, false, not, List, [], ◌∷◌, ◌++◌, ℕ, zero, suc, ◌+◌, ◌*◌, leb, ltb, eqb, length, get_or, Option, None, Some, Result, Ok, Err}
 use Rattle.lists.specs.Below.{pick, both}
 use Rattle.wire.specs.Word.{number_at, le}
 use Rattle.wire.specs.Checksum.{checksum}

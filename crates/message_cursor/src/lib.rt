@@ -1,8 +1,7 @@
 // The messages that change a seat's cursors and send no rows: disconnect, free cursor and set bindings.
 #![tactic(auto)]
 
-ghost use Rattle.std.specs.Prelude.{◌≡◌, false, length, set};
-ghost use Rattle.std.specs.Prelude.{None};
+ghost use Rattle.std.specs.Prelude.{◌≡◌, false, length, set, None};
 ghost use Rattle.table.specs.Layout.{cursor_size, cursor_place, columns_at, width_at, records_at, records_size};
 ghost use Rattle.lists.specs.Parts.{put};
 ghost use Rattle.table.specs.Seat.{cursor_words};

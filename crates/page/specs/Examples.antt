@@ -1,6 +1,5 @@
 -- A row with a label or without, and the 512 bytes of the reply of 01's whole case.
-use Rattle.std.specs.Prelude.{List, [], ◌∷◌, ◌++◌, ℕ, replicate}
-use Rattle.std.specs.Prelude.{Option, None}
+use Rattle.std.specs.Prelude.{List, [], ◌∷◌, ◌++◌, ℕ, replicate, Option, None}
 use Rattle.catalogue.specs.Plain.{Row}
 
 abbrev pub labelled : Option (List ℕ) → Row

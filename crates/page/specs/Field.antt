@@ -1,6 +1,5 @@
 -- What a row has for a property (01, "The option catalogue": "property numbers 2 key, 3 language, 4 default, 5 label, 6 note").
-use Rattle.std.specs.Prelude.{List, ℕ, eqb}
-use Rattle.std.specs.Prelude.{Option, None, Some}
+use Rattle.std.specs.Prelude.{List, ℕ, eqb, Option, None, Some}
 use Rattle.lists.specs.Below.{pick}
 use Rattle.catalogue.specs.Plain.{Row}
 use Rattle.wire.specs.Property.{key_property, language_property, default_property, label_property}

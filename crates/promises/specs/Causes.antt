@@ -1,7 +1,6 @@
 -- The causes of each call's refusals, in one list (01, "Refusal numbers, in order of test").
-use Rattle.std.specs.Prelude.{◌≡◌, Bool, true, false, List, [], ◌∷◌, ◌++◌, ℕ, ◌<◌, ltb, length, get_or}
+use Rattle.std.specs.Prelude.{◌≡◌, Bool, true, false, List, [], ◌∷◌, ◌++◌, ℕ, ◌<◌, ltb, length, get_or, Option}
 use Rattle.lists.specs.Below.{pick}
-use Rattle.std.specs.Prelude.{Option}
 use Rattle.wire.specs.Laid.{four_words}
 use Rattle.table.specs.Seat.{Seat}
 use Rattle.refusal.specs.Refusal.{status_of}

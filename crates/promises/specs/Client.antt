@@ -1,6 +1,5 @@
 -- What a client's own calls and their answers tell of its seat and its cursors, without a look at the table.
-use Rattle.std.specs.Prelude.{◌≡◌, Bool, List, [], ◌∷◌, ◌⊎◌, ℕ, ◌+◌, eqb}
-use Rattle.std.specs.Prelude.{Option, None, Some}
+use Rattle.std.specs.Prelude.{◌≡◌, Bool, List, [], ◌∷◌, ◌⊎◌, ℕ, ◌+◌, eqb, Option, None, Some}
 use Rattle.lists.specs.Below.{pick, both}
 use Rattle.wire.specs.Word.{number_at}
 use Rattle.bindings.specs.Plain.{Bindings, bindings}

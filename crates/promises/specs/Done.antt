@@ -1,6 +1,5 @@
 -- What the other accepted calls answer and leave (01, "Refusal numbers, in order of test", and "Bindings").
-use Rattle.std.specs.Prelude.{◌≡◌, List, [], ◌++◌, ℕ}
-use Rattle.std.specs.Prelude.{Option, None, Some}
+use Rattle.std.specs.Prelude.{◌≡◌, List, [], ◌++◌, ℕ, Option, None, Some}
 use Rattle.wire.specs.Word.{le}
 use Rattle.wire.specs.Laid.{four_words}
 use Rattle.table.specs.Seat.{Seat}

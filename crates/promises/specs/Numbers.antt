@@ -1,6 +1,5 @@
 -- 01's "Numbers to check against" as one table of facts: M1 to M12, and the two edges after them.
-use Rattle.std.specs.Prelude.{◌≡◌, Bool, true, false, List, [], ◌∷◌, ℕ, ◌+◌, ◌-◌, replicate}
-use Rattle.std.specs.Prelude.{None, Some}
+use Rattle.std.specs.Prelude.{◌≡◌, Bool, true, false, List, [], ◌∷◌, ℕ, ◌+◌, ◌-◌, replicate, None, Some}
 use Rattle.wire.specs.Checksum.{checksum}
 use Rattle.wire.specs.Examples.{message_of}
 use Rattle.catalogue.specs.Groups as Groups

@@ -1,8 +1,7 @@
 -- What an accepted opening does (01: "opening takes the lowest free handle, with position 0 and no bindings"; demand 2: "A query selects
 -- exactly the rows its tree describes, in order").
-use Rattle.std.specs.Prelude.{◌≡◌, true, ◌↔◌, ◌⊎◌, ℕ, ◌<◌, length}
+use Rattle.std.specs.Prelude.{◌≡◌, true, ◌↔◌, ◌⊎◌, ℕ, ◌<◌, length, None, Some}
 use mathlib.Core.List.{List, Memᴰ}
-use Rattle.std.specs.Prelude.{None, Some}
 use Rattle.catalogue.specs.Plain.{Row, catalogue, row_in}
 use Rattle.tree.specs.Tree.{Tree}
 use Rattle.tree.specs.TreeHolds.{holds}

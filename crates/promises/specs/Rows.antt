@@ -1,6 +1,5 @@
 -- What a client that knows its cursor and its request reads of a rows reply (01, "Rows").
-use Rattle.std.specs.Prelude.{◌≡◌, List, ◌↔◌, ◌⊎◌, ℕ, ◌+◌, ◌≤◌, ◌<◌, length, get_or, take, drop}
-use Rattle.std.specs.Prelude.{Some}
+use Rattle.std.specs.Prelude.{◌≡◌, List, ◌↔◌, ◌⊎◌, ℕ, ◌+◌, ◌≤◌, ◌<◌, length, get_or, take, drop, Some}
 use Rattle.wire.specs.Word.{number_at}
 use Rattle.catalogue.specs.Plain.{Row, row_in}
 use Rattle.bindings.specs.Sound.{column, Sound}

@@ -1,8 +1,7 @@
 -- A walk through a selection: what a client notes of a cursor since its opening, and what the replies, each read by its own bytes, show
 -- (demand 3: "the rows a cursor has carried are always the first rows of its selection, each once; end of rowset is said exactly when
 -- all are carried").
-use Rattle.std.specs.Prelude.{◌≡◌, List, [], ◌∷◌, ◌++◌, ◌↔◌, ℕ, ◌<◌, length, get_or, take}
-use Rattle.std.specs.Prelude.{Option, None, Some}
+use Rattle.std.specs.Prelude.{◌≡◌, List, [], ◌∷◌, ◌++◌, ◌↔◌, ℕ, ◌<◌, length, get_or, take, Option, None, Some}
 use Rattle.catalogue.specs.Plain.{Row, row_in}
 use Rattle.bindings.specs.declared.Column.{Column}
 use Rattle.bindings.specs.Sound.{column, Sound}

@@ -1,6 +1,5 @@
 -- What opening a query does to its seat (01: "opening takes the lowest free handle, with position 0 and no bindings").
-use Rattle.std.specs.Prelude.{Bool, true, false, not, List, [], ◌∷◌, ℕ, eqb}
-use Rattle.std.specs.Prelude.{Option, None, Some, Result, Ok, Err}
+use Rattle.std.specs.Prelude.{Bool, true, false, not, List, [], ◌∷◌, ℕ, eqb, Option, None, Some, Result, Ok, Err}
 use Rattle.lists.specs.Below.{pick}
 use Rattle.catalogue.specs.Plain.{Row}
 use Rattle.tree.specs.Reader.{restriction, is_tree}

@@ -1,6 +1,5 @@
 -- What is judged of a seat before a query is opened on it.
-use Rattle.std.specs.Prelude.{◌≡◌, List, ℕ}
-use Rattle.std.specs.Prelude.{Option, None, Some, Result}
+use Rattle.std.specs.Prelude.{◌≡◌, List, ℕ, Option, None, Some, Result}
 use Rattle.table.specs.Seat.{Seat}
 use Rattle.refusal.specs.Refusal.{first_cause}
 use Rattle.refusal.specs.declared.Refusal.{Refusal}

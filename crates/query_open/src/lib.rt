@@ -1,8 +1,7 @@
 // Opening a query on a seat: refusals 7, 14 and 16, and the cursor with the rows selected.
 #![tactic(auto)]
 
-ghost use Rattle.std.specs.Prelude.{◌≡◌, ◌≢◌, length, true};
-ghost use Rattle.std.specs.Prelude.{None, Some, MatchOption};
+ghost use Rattle.std.specs.Prelude.{◌≡◌, ◌≢◌, length, true, None, Some, MatchOption};
 ghost use Rattle.table.specs.Layout.{seat_size, cursor_size, cursor_place};
 ghost use Rattle.lists.specs.Parts.{part, put};
 ghost use Rattle.table.specs.Seat.{seat_in, seat_of, cursor_words, opened};

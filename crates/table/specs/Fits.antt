@@ -1,6 +1,5 @@
 -- What a cursor and a seat must be for their words to pass refusal 2, in plain terms.
-use Rattle.std.specs.Prelude.{◌≡◌, true, [], ◌⊎◌, ◌≤◌, length}
-use Rattle.std.specs.Prelude.{Option, None, Some}
+use Rattle.std.specs.Prelude.{◌≡◌, true, [], ◌⊎◌, ◌≤◌, length, Option, None, Some}
 use Rattle.lists.specs.Every.{every}
 use Rattle.bindings.specs.Fit.{fit}
 use Rattle.table.specs.Layout.{rows_size}

@@ -1,6 +1,5 @@
 -- Which of a seat's cursors are open, and how many.
-use Rattle.std.specs.Prelude.{Bool, true, false, ℕ, ◌+◌}
-use Rattle.std.specs.Prelude.{Option, None, Some}
+use Rattle.std.specs.Prelude.{Bool, true, false, ℕ, ◌+◌, Option, None, Some}
 use Rattle.table.specs.Seat.{Cursor, Seat}
 
 -- whether there is a cursor under a handle

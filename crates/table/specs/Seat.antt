@@ -1,7 +1,6 @@
 -- What a seat and a cursor are, and the words that hold them (01: "Sessions live in a lent table of 32-bit words, row numbers
 -- of each selection included").
-use Rattle.std.specs.Prelude.{List, [], ◌∷◌, ◌++◌, ℕ, ◌-◌, eqb, length, get_or, take, drop}
-use Rattle.std.specs.Prelude.{Option, None, Some}
+use Rattle.std.specs.Prelude.{List, [], ◌∷◌, ◌++◌, ℕ, ◌-◌, eqb, length, get_or, take, drop, Option, None, Some}
 use Rattle.lists.specs.Below.{pick}
 use Rattle.bindings.specs.Column.{columns_of, words_of}
 use Rattle.bindings.specs.declared.Column.{Column}

@@ -1,6 +1,5 @@
 -- The judgement of a whole table (01, the paragraph under the refusal table), refusal 2 and the second half of refusal 3.
-use Rattle.std.specs.Prelude.{Bool, true, List, ℕ, ◌+◌, ◌-◌, ◌*◌, leb, ltb, eqb, length, get_or, take, drop}
-use Rattle.std.specs.Prelude.{Option, None, Some}
+use Rattle.std.specs.Prelude.{Bool, true, List, ℕ, ◌+◌, ◌-◌, ◌*◌, leb, ltb, eqb, length, get_or, take, drop, Option, None, Some}
 use Rattle.lists.specs.Below.{pick, both, every_below}
 use Rattle.bindings.specs.Column.{column_words, columns_of}
 use Rattle.lists.specs.Every.{every}

@@ -1,8 +1,7 @@
 // What a call writes into the words of a seat and of a cursor.
 #![tactic(auto)]
 
-ghost use Rattle.std.specs.Prelude.{◌≡◌, length, set};
-ghost use Rattle.std.specs.Prelude.{None, Some};
+ghost use Rattle.std.specs.Prelude.{◌≡◌, length, set, None, Some};
 ghost use Rattle.table.specs.Layout.{open_at, position_at, count_at, columns_at, width_at, records_at, records_size};
 ghost use Rattle.lists.specs.Parts.{put, zeros};
 ghost use Rattle.table.specs.Seat.{seat_words, fresh};

@@ -1,6 +1,5 @@
 -- A leaf, a node or a list that can be read from the unread bytes of a tree.
-use Rattle.std.specs.Prelude.{◌≡◌, List, ℕ, ◌%◌, ◌≤◌, length}
-use Rattle.std.specs.Prelude.{Some}
+use Rattle.std.specs.Prelude.{◌≡◌, List, ℕ, ◌%◌, ◌≤◌, length, Some}
 use Rattle.tree.specs.Parts.{leaf_at}
 use Rattle.tree.specs.declared.Parts.{Parts}
 use Rattle.tree.specs.Limits.{bytes_most}

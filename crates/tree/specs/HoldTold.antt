@@ -1,8 +1,7 @@
 -- What the code says of a leaf, of a node and of a list of nodes, handed the unread bytes from its first one on. Nodes begin at multiples of
 -- 4, so that their padding counts from their own first byte: no place is handed on with the bytes.
 -- proofs/Leaves.antt shows that these are the words of the leaf that is read there.
-use Rattle.std.specs.Prelude.{◌≡◌, Bool, false, List, ℕ, ◌+◌, ◌%◌}
-use Rattle.std.specs.Prelude.{Some}
+use Rattle.std.specs.Prelude.{◌≡◌, Bool, false, List, ℕ, ◌+◌, ◌%◌, Some}
 use Rattle.catalogue.specs.Plain.{Row}
 use Rattle.catalogue.specs.CataloguePlaces.{text_of}
 use Rattle.catalogue.specs.declared.Fields.{Fields}

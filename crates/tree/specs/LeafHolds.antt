@@ -1,6 +1,5 @@
 -- Which rows a leaf holds for (01, "Restriction trees").
-use Rattle.std.specs.Prelude.{Bool, false, not, List, ℕ, leb, ltb, eqb}
-use Rattle.std.specs.Prelude.{Option, None, Some}
+use Rattle.std.specs.Prelude.{Bool, false, not, List, ℕ, leb, ltb, eqb, Option, None, Some}
 use Rattle.lists.specs.Below.{pick}
 use Rattle.catalogue.specs.Plain.{Row}
 use Rattle.tree.specs.Phrase.{occurs}

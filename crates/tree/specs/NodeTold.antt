@@ -1,6 +1,5 @@
 -- What the code answers of a tree that it reads: the bytes that a node takes and how many nodes may still come, or that there is none.
-use Rattle.std.specs.Prelude.{Option, None, Some}
-use Rattle.std.specs.Prelude.{ℕ, ◌+◌}
+use Rattle.std.specs.Prelude.{Option, None, Some, ℕ, ◌+◌}
 use Rattle.tree.specs.Reader.{TreeRead, ForestRead}
 
 -- a node, and a list of children

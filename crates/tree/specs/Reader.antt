@@ -1,7 +1,6 @@
 -- The reader of a restriction tree (01, "Restriction trees"; source, 2.2.1.7 and 2.2.1.16): a list of bytes to a tree, or to nothing.
 -- Each reader is handed what is unread, with the place of its first byte counted from the tree's origin, and says how many bytes it used.
-use Rattle.std.specs.Prelude.{List, ℕ, zero, suc, ◌+◌, leb, eqb, length, drop, Bool, true, false}
-use Rattle.std.specs.Prelude.{Option, None, Some}
+use Rattle.std.specs.Prelude.{List, ℕ, zero, suc, ◌+◌, leb, eqb, length, drop, Bool, true, false, Option, None, Some}
 use Rattle.lists.specs.Below.{pick, both}
 use Rattle.wire.specs.Word.{number_at}
 use Rattle.tree.specs.Limits.{bytes_most, nodes_most, levels_most}

@@ -1,7 +1,6 @@
 -- The rows that a tree selects: their numbers, counted from 0 in the catalogue's order (01, "What the base serves": "row numbers of each
 -- selection"; "Restriction trees").
-use Rattle.std.specs.Prelude.{Bool, List, [], ◌∷◌, ℕ, ◌+◌}
-use Rattle.std.specs.Prelude.{Option, None, Some}
+use Rattle.std.specs.Prelude.{Bool, List, [], ◌∷◌, ℕ, ◌+◌, Option, None, Some}
 use Rattle.lists.specs.Below.{pick}
 use Rattle.catalogue.specs.Plain.{Row, catalogue}
 use Rattle.tree.specs.Tree.{Tree}

@@ -1,6 +1,5 @@
 -- What the code says of the bytes that a node takes and of where a list ends, handed the unread bytes from their first one on.
-use Rattle.std.specs.Prelude.{◌≡◌, List, ℕ, ◌+◌, ◌%◌, ◌≤◌, length, drop}
-use Rattle.std.specs.Prelude.{Some}
+use Rattle.std.specs.Prelude.{◌≡◌, List, ℕ, ◌+◌, ◌%◌, ◌≤◌, length, drop, Some}
 use Rattle.tree.specs.Limits.{bytes_most}
 use Rattle.tree.specs.Parts.{leaf_at, with_leaf}
 use Rattle.tree.specs.Reader.{TreeRead, ForestRead, Read, read_list, read_tree}

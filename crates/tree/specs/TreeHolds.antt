@@ -1,7 +1,6 @@
 -- Which rows a tree holds for (01, "Restriction trees"). What a leaf says is apart from what a tree makes of it.
-use Rattle.std.specs.Prelude.{Bool, true, false, ℕ}
+use Rattle.std.specs.Prelude.{Bool, true, false, ℕ, Option, None, Some}
 use Rattle.std.proofs.Math.Bool as Truth
-use Rattle.std.specs.Prelude.{Option, None, Some}
 use Rattle.lists.specs.Below.{both, either}
 use Rattle.catalogue.specs.Plain.{Row}
 use Rattle.tree.specs.Leaf.{Leaf}

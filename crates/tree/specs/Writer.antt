@@ -1,7 +1,6 @@
 -- The writer of a restriction tree, the reader's other half (01, "Restriction trees"; source, 2.2.1.3, 2.2.1.7, 2.2.1.9 and 2.2.1.16):
 -- which bytes hold a tree, by its parts one after the other, and which trees are within the limits.
-use Rattle.std.specs.Prelude.{◌≡◌, true, List, [], ◌∷◌, ◌++◌, map, ℕ, ◌+◌, ◌^◌, ◌≤◌, ◌<◌, length, get_or, replicate}
-use Rattle.std.specs.Prelude.{Option, None, Some}
+use Rattle.std.specs.Prelude.{◌≡◌, true, List, [], ◌∷◌, ◌++◌, map, ℕ, ◌+◌, ◌^◌, ◌≤◌, ◌<◌, length, get_or, replicate, Option, None, Some}
 use Rattle.lists.specs.Parts.{zeros}
 use Rattle.wire.specs.Word.{le}
 use Rattle.wire.specs.Padding.{padding}

@@ -8,7 +8,7 @@ ghost use Rattle.catalogue.specs.CataloguePlaces.{row_of};
 ghost use Rattle.catalogue.specs.CatalogueReady.{FieldsReady};
 ghost use Rattle.tree.specs.TreeHolds.{held_by};
 ghost use Rattle.tree.specs.Reader.{restriction, is_tree};
-ghost use Rattle.tree.specs.LeafPlaces.{relation_in, locale_at};
+ghost use Rattle.tree.specs.LeafPlaces.{locale_at};
 ghost use Rattle.tree.specs.HoldTold.{relation_told, content_told, leaf_told, NodeTold, ListTold, ListHolds};
 ghost use Rattle.tree.specs.HoldReady.{LeafReady, NodeReady, ListReady};
 

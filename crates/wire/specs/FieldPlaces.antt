@@ -1,8 +1,7 @@
 -- The fields of a message by their places, counted from the message's first byte (source, CFullPropSpec and CTableColumn): what the code
 -- follows.
 -- Each reader gives what it read and the place after it, or nothing where the body is malformed (01, refusal 9).
-use Rattle.std.specs.Prelude.{List, ℕ, ◌+◌, leb, length, get_or}
-use Rattle.std.specs.Prelude.{Option, None, Some}
+use Rattle.std.specs.Prelude.{List, ℕ, ◌+◌, leb, length, get_or, Option, None, Some}
 use Rattle.wire.specs.Word.{number_at}
 use Rattle.lists.specs.Below.{pick}
 use Rattle.wire.specs.Padding.{padding, zero_at}
