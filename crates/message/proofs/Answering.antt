@@ -1,13 +1,14 @@
 -- The ways that a message on its seat can go: refused, or done. Assumes nothing.
 use mathlib.Core.Path.{◌≡◌, refl, sym, ap, subst, ◌∙◌}
+use mathlib.Core.Bool.{Bool}
 use mathlib.Core.List.{List, ◌++◌}
 use Rattle.std.specs.Prelude.{Option, None, Some, Result, Ok}
 use Rattle.message.specs.declared.Kind.{Kind}
 use Rattle.message.proofs.Gating.{gate_admits, gate_connected}
-use Prim.Native.Nat.{ℕ, ◌≤◌}
+use Prim.Native.Nat.{ℕ, zero, suc, ◌≤◌, ◌<◌}
 use native.Mathlib.Nat.{zero-add}
 use native.Mathlib.Omega.{arith}
-use borrow.Author.Tests.{ne_eqb, le-leb}
+use borrow.Author.Tests.{ne_eqb}
 use lib.Dec.{eqb}
 use Rattle.lists.proofs.Below.{by_test}
 use lib.ListN.{length, get_or, drop}
@@ -22,12 +23,12 @@ use Rattle.table.specs.Fits.{CursorOk, SeatOk}
 use Rattle.table.proofs.Seats.{seat_back}
 use Rattle.refusal.specs.declared.Refusal.{Refusal}
 use Rattle.refusal.specs.Refusal.{first_cause, status_of}
-use Rattle.refusal.specs.Numbers.{refusal_number}
-use Rattle.refusal.proofs.Numbers.{number_least}
-use Rattle.message.specs.Message.{kind_of, kind_number, msg_of, handle_of, disconnects, frees, fetches, rows_causes, gate_causes, body_causes, body_of, seat_causes, refused_on, done_on, done_by, seat_message}
+use Rattle.refusal.specs.Numbers.{refusal_number, refusing, number_of}
+use Rattle.refusal.proofs.Numbers.{number_least, number_back, number_given}
+use Rattle.message.specs.Message.{kind_of, kind_number, msg_of, handle_of, disconnects, frees, fetches, rows_causes, gate_causes, body_causes, body_of, seat_causes, SeatOutcome, refused_on, rows_done, done_on, done_by, seat_message, count_of}
 use Rattle.message.specs.AnswerReady.{MessageReady, AdmittedReady}
-use Rattle.message.specs.AnswerTold.{Answers, Refuses, kind_at, gated}
-use Rattle.refusal.proofs.First.{Numbered, Over, first_stop, first_go, first_over}
+use Rattle.message.specs.AnswerTold.{Answers, Refuses, RefusesFor, kind_at, gated}
+use Rattle.refusal.proofs.First.{Numbered, Over, Under, first_stop, first_go, first_over, first_under}
 
 -- bytes laid over the start of a list
 pub lay_front : (t b : List ℕ) → lay t 0 b ≡ b ++ drop (length b) t
@@ -64,33 +65,125 @@ body_over rows kind s m =
     (λ e. rw (q, w, e) (omega arith, (omega arith, rows_over rows (cursor_in s (handle_of m)) (request m))))
     (λ e. rw (q, w, e) (omega arith, (omega arith, (omega arith, tt))))))
 
--- a refusal from 6 on: the header, and nothing else
-refused_answers : (rows : List Row) (b m entry exit : List ℕ) (msg : ℕ) (n : Refusal) (r : Result ℕ Refusal) → b ≡ seat_words (seat_of b) → msg ≡ msg_of m
-    → 6 ≤ refusal_number n → seat_message rows (seat_of b) m ≡ refused_on (refusal_number n) (seat_of b) m → Refuses msg n r entry exit
-    → Answers (seat_message rows (seat_of b) m) r b entry exit
+-- every number of theirs is below 17
+gate_under : (held : Option Seat) (m : List ℕ) → Under 17 (gate_causes held m)
+gate_under None m = (omega arith, (omega arith, tt))
+gate_under (Some s) m = (omega arith, (omega arith, (omega arith, tt)))
+
+rows_under : (rows : List Row) (o : Option Cursor) (q : Option Request) → Under 17 (rows_causes rows o q)
+rows_under rows None q = tt
+rows_under rows (Some c) None = tt
+rows_under rows (Some c) (Some q) = (omega arith, (omega arith, (omega arith, (omega arith, tt))))
+
+body_under : (rows : List Row) (kind : ℕ) (s : Seat) (m : List ℕ) → Under 17 (body_causes rows kind s m)
+body_under rows kind s m =
+    by_test (eqb kind disconnects)
+    (λ q. rw q (omega arith, tt))
+    (λ q.
+    by_test (eqb kind frees)
+    (λ w. rw (q, w) (omega arith, (omega arith, tt)))
+    (λ w.
+    by_test (eqb kind fetches)
+    (λ e. rw (q, w, e) (omega arith, (omega arith, rows_under rows (cursor_in s (handle_of m)) (request m))))
+    (λ e. rw (q, w, e) (omega arith, (omega arith, (omega arith, tt))))))
+
+-- the number that a message on its seat is answered by: 0, or one from 6 to 16
+abbrev Sent : ℕ → Type 0
+Sent zero = Unit {0}
+Sent (suc n) = (6 ≤ suc n) × (suc n < 17)
+
+-- so has the first cause of a list where each of them has one
+causes_sent : (a : List (ℕ × Bool)) → Over 6 a → Under 17 a → Sent (first_cause a)
+causes_sent a u w = go (first_cause a) refl
+  where
+    go : (n : ℕ) → first_cause a ≡ n → Sent n
+    go zero e = tt
+    go (suc n) e =
+        (subst (λ (k : ℕ). 6 ≤ k) e (first_over 6 a u (λ z. omega (arith, e, z))), subst (λ (k : ℕ). k < 17) e (first_under 17 a (omega arith) w))
+
+joined_sent : (a b : List (ℕ × Bool)) → Numbered a → Sent (first_cause a) → Sent (first_cause b) → Sent (first_cause (a ++ b))
+joined_sent a b z k l = go (first_cause a) refl
+  where
+    go : (n : ℕ) → first_cause a ≡ n → Sent (first_cause (a ++ b))
+    go zero e = subst Sent (sym (first_go a b z e)) l
+    go (suc n) e = subst Sent (e ∙ sym (first_stop a b (suc n) e (λ w. omega (arith, w)))) k
+
+body_sent : (rows : List Row) (held : Option Seat) (m : List ℕ) → Sent (first_cause (body_of rows held m))
+unfolding first_cause
+body_sent rows None m = tt
+body_sent rows (Some s) m =
+    causes_sent (body_causes rows (kind_of (msg_of m)) s m) (body_over rows (kind_of (msg_of m)) s m) (body_under rows (kind_of (msg_of m)) s m)
+
+rows_done_sent : (rows : List Row) (s : Seat) (handle : ℕ) (o : Option Cursor) (q : Option Request) → Sent (rows_done rows s handle o q).refusal
+rows_done_sent rows s handle None q = tt
+rows_done_sent rows s handle (Some c) None = tt
+rows_done_sent rows s handle (Some c) (Some q) = tt
+
+done_sent : (rows : List Row) (held : Option Seat) (m : List ℕ) → Sent (done_by rows held m).refusal
+done_sent rows None m = (omega arith, omega arith)
+done_sent rows (Some s) m =
+    by_test (eqb (kind_of (msg_of m)) disconnects)
+    (λ q. rw q tt)
+    (λ q.
+    by_test (eqb (kind_of (msg_of m)) frees)
+    (λ w. rw (q, w) tt)
+    (λ w.
+    by_test (eqb (kind_of (msg_of m)) fetches)
+    (λ e. rw (q, w, e) (rows_done_sent rows s (handle_of m) (cursor_in s (handle_of m)) (request m)))
+    (λ e. rw (q, w, e) tt)))
+
+seat_sent : (rows : List Row) (held : Option Seat) (m : List ℕ) → Sent (seat_message rows held m).refusal
+unfolding seat_message
+seat_sent rows held m =
+    by_test (eqb (first_cause (seat_causes rows held m)) 0)
+    (λ q. rw q (done_sent rows held m))
+    (λ q.
+    rw q
+    (joined_sent (gate_causes held m) (body_of rows held m) (gate_numbered held m) (causes_sent (gate_causes held m) (gate_over held m) (gate_under held m))
+    (body_sent rows held m)))
+
+-- the answer that has such a number, and 16 where it is 0, counts the header's bytes
+number_sent : (n : ℕ) → Sent n → number_of {A = ℕ} (refusing n 16) ≡ n
+number_sent zero k = refl
+number_sent (suc n) k = number_given {A = ℕ} (suc n) 16 k.1
+
+count_sent : (n : ℕ) → Sent n → count_of (refusing n 16) ≡ 16
+count_sent n k = grind arith
+
+-- a refusal: the header, and nothing else
+pub refused_answers : (rows : List Row) (b m entry exit : List ℕ) (msg n : ℕ) (r : ℕ × ℕ) → b ≡ seat_words (seat_of b) → msg ≡ msg_of m
+    → seat_message rows (seat_of b) m ≡ refused_on n (seat_of b) m → Refuses msg n r entry exit
+    → Answers (seat_message rows (seat_of b) m) (refusing n r.1) b entry exit
 unfolding le
-refused_answers rows b m entry exit msg n r e h l o w =
+refused_answers rows b m entry exit msg n r e h o w =
+    let k : Sent n = subst Sent (ap (λ (x : SeatOutcome). x.refusal) o) (seat_sent rows (seat_of b) m) in
     rw (o, w.answered)
     record {
-      refused = refl;
-      counted = rw (le-leb 6 (refusal_number n) l);
+      refused = number_sent n k;
+      counted = count_sent n k;
       kept = e;
-      written = w.written ∙ lay_front entry (four_words msg (status_of (refusal_number n)) 0 0)
-          ∙ ap (λ (k : ℕ). four_words k (status_of (refusal_number n)) 0 0 ++ drop 16 entry) h;
+      written = w.written ∙ lay_front entry (four_words msg (status_of n) 0 0) ∙ ap (λ (k : ℕ). four_words k (status_of n) 0 0 ++ drop 16 entry) h;
     }
 
+-- the same of a cause
+refused_for_answers : (rows : List Row) (b m entry exit : List ℕ) (msg : ℕ) (n : Refusal) (r : Result ℕ Refusal) → b ≡ seat_words (seat_of b) → msg ≡ msg_of m
+    → seat_message rows (seat_of b) m ≡ refused_on (refusal_number n) (seat_of b) m → RefusesFor msg n r entry exit
+    → Answers (seat_message rows (seat_of b) m) r b entry exit
+refused_for_answers rows b m entry exit msg n r e h o w =
+    subst (λ (x : Result ℕ Refusal). Answers (seat_message rows (seat_of b) m) x b entry exit) (number_back n 16 ∙ sym w.answered)
+    (refused_answers rows b m entry exit msg (refusal_number n) (refusal_number n, 16) e h o (record { answered = refl; written = w.written }))
+
 -- refusals 6 to 8
-gate_refused : (rows : List Row) (b m : List ℕ) (n : ℕ) → first_cause (gate_causes (seat_of b) m) ≡ n → (n ≡ 0 → ⊥) → seat_message rows (seat_of b) m ≡ refused_on n (seat_of b) m
+pub gate_refused : (rows : List Row) (b m : List ℕ) (n : ℕ) → first_cause (gate_causes (seat_of b) m) ≡ n → (n ≡ 0 → ⊥) → seat_message rows (seat_of b) m ≡ refused_on n (seat_of b) m
 unfolding seat_message
 gate_refused rows b m n e z =
     let f : first_cause (seat_causes rows (seat_of b) m) ≡ n = first_stop (gate_causes (seat_of b) m) (body_of rows (seat_of b) m) n e z in
     rw (f, ne_eqb n 0 z)
 
 pub gate_answers : (rows : List Row) (b m entry exit : List ℕ) (msg : ℕ) (n : Refusal) (r : Result ℕ Refusal) → b ≡ seat_words (seat_of b) → msg ≡ msg_of m
-    → first_cause (gate_causes (seat_of b) m) ≡ refusal_number n → Refuses msg n r entry exit → Answers (seat_message rows (seat_of b) m) r b entry exit
+    → first_cause (gate_causes (seat_of b) m) ≡ refusal_number n → RefusesFor msg n r entry exit → Answers (seat_message rows (seat_of b) m) r b entry exit
 gate_answers rows b m entry exit msg n r e h f w =
-    refused_answers rows b m entry exit msg n r e h
-    (omega (arith, f, first_over 6 (gate_causes (seat_of b) m) (gate_over (seat_of b) m) (λ z. number_least n (sym f ∙ z))))
+    refused_for_answers rows b m entry exit msg n r e h
     (gate_refused rows b m (refusal_number n) f (number_least n))
     w
 
@@ -119,15 +212,14 @@ module _ (b m reply : List ℕ) (msg kind : ℕ) (a : AdmittedReady b m reply ms
         ∙ ap (λ (o : Option Seat). first_cause (body_of rows o m)) held
         ∙ ap (λ (k : ℕ). first_cause (body_causes rows k (seat_in b) m)) a.kind_is
 
-    body_refused : (n : ℕ) → first_cause (body_causes rows kind (seat_in b) m) ≡ n → (n ≡ 0 → ⊥) → seat_message rows (seat_of b) m ≡ refused_on n (seat_of b) m
+    pub body_refused : (n : ℕ) → first_cause (body_causes rows kind (seat_in b) m) ≡ n → (n ≡ 0 → ⊥) → seat_message rows (seat_of b) m ≡ refused_on n (seat_of b) m
     unfolding seat_message
     body_refused n e z = let f : first_cause (seat_causes rows (seat_of b) m) ≡ n = causes_are ∙ e in rw (f, ne_eqb n 0 z)
 
     pub refused_by_lem : (n : Refusal) → first_cause (body_causes rows kind (seat_in b) m) ≡ refusal_number n → (r : Result ℕ Refusal) (mid exit : List ℕ)
-        → Refuses msg n r mid exit → Answers (seat_message rows (seat_of b) m) r b mid exit
+        → RefusesFor msg n r mid exit → Answers (seat_message rows (seat_of b) m) r b mid exit
     refused_by_lem n e r mid exit w =
-        refused_answers rows b m mid exit msg n r (words_is b m reply a.given) a.msg_is
-        (omega (arith, e, first_over 6 (body_causes rows kind (seat_in b) m) (body_over rows kind (seat_in b) m) (λ z. number_least n (sym e ∙ z))))
+        refused_for_answers rows b m mid exit msg n r (words_is b m reply a.given) a.msg_is
         (body_refused (refusal_number n) e (number_least n))
         w
 

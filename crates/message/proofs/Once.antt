@@ -8,7 +8,7 @@ use Rattle.refusal.specs.Numbers.{number_of}
 use Rattle.refusal.proofs.Numbers.{number_least, refusal_same}
 use Rattle.table.specs.Seat.{seat_of}
 use Rattle.message.specs.Message.{SeatOutcome, seat_message, count_of}
-use Rattle.message.specs.AnswerTold.{Answers, AnswersAny, Refuses}
+use Rattle.message.specs.AnswerTold.{Answers, AnswersAny, Refuses, RefusesFor}
 
 -- answers with the same number and the same count are the same
 pub answer_same : (r r' : Result ℕ Refusal) → number_of r ≡ number_of r' → count_of r ≡ count_of r' → r ≡ r'
@@ -36,6 +36,10 @@ pub answers_any_once : (b m : List ℕ) (r r' : Result ℕ Refusal) (w w' entry 
     → Same r r' w w' x x'
 answers_any_once b m r r' w w' entry x x' k l = answers_once (seat_message [] (seat_of b) m) r r' w w' entry x x' (k []) (l [])
 
-pub refuses_once : (msg : ℕ) (refusal : Refusal) (r r' : Result ℕ Refusal) (entry x x' : List ℕ) → Refuses msg refusal r entry x → Refuses msg refusal r' entry x'
+pub refuses_once : (msg refusal : ℕ) (r r' : ℕ × ℕ) (entry x x' : List ℕ) → Refuses msg refusal r entry x → Refuses msg refusal r' entry x'
     → (r ≡ r') × (x ≡ x')
 refuses_once msg refusal r r' entry x x' k l = (k.answered ∙ sym l.answered, k.written ∙ sym l.written)
+
+pub refuses_for_once : (msg : ℕ) (cause : Refusal) (r r' : Result ℕ Refusal) (entry x x' : List ℕ) → RefusesFor msg cause r entry x → RefusesFor msg cause r' entry x'
+    → (r ≡ r') × (x ≡ x')
+refuses_for_once msg cause r r' entry x x' k l = (k.answered ∙ sym l.answered, k.written ∙ sym l.written)

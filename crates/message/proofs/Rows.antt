@@ -30,7 +30,7 @@ use Rattle.refusal.specs.Refusal.{first_cause}
 use Rattle.message.specs.Message.{handle_of, body_causes, rows_done, seat_message}
 use Rattle.table.specs.Open.{is_open}
 use Rattle.message.specs.AnswerReady.{AdmittedReady, SourcesReady}
-use Rattle.message.specs.AnswerTold.{Answers, Refuses}
+use Rattle.message.specs.AnswerTold.{Answers, RefusesFor}
 use Rattle.message.proofs.Answering.{held, seat_is, seat_fits, refused_by_lem, body_done}
 use Rattle.table.proofs.Handles.{place_inside, put_is}
 use Rattle.message.proofs.Bodies.{put_handle}
@@ -98,10 +98,10 @@ module _ (b m reply : List ℕ) (msg : ℕ) (a : AdmittedReady b m reply msg 2) 
 
       -- refused: the cursor's part is as it was, and so are the seat's words
       pub rows_refused : (n : Refusal) (words mid exit : List ℕ) (r : Result ℕ Refusal) → Fetched (part b (cursor_place (handle_of m)) cursor_size) s q (Err n) words reply mid
-          → Refuses msg n r mid exit → Answers (seat_message (rows_of (catalogue s)) (seat_of b) m) r b reply exit
+          → RefusesFor msg n r mid exit → Answers (seat_message (rows_of (catalogue s)) (seat_of b) m) r b reply exit
       rows_refused n words mid exit r f w =
           refused_by_lem b m reply msg 2 a (rows_of (catalogue s)) n (causes_are ∙ sym f.refused) r reply exit
-          (subst (λ (x : List ℕ). Refuses msg n r x exit) (f.unwritten (number_least n)) w)
+          (subst (λ (x : List ℕ). RefusesFor msg n r x exit) (f.unwritten (number_least n)) w)
 
       pub words_back : (n : Refusal) (words mid : List ℕ) → Fetched (part b (cursor_place (handle_of m)) cursor_size) s q (Err n) words reply mid
           → put b (cursor_place (handle_of m)) cursor_size words ≡ b
@@ -161,7 +161,7 @@ module _ (b m reply : List ℕ) (msg : ℕ) (a : AdmittedReady b m reply msg 2) 
         fetched_is n f = subst (λ (x : List ℕ). Fetched x s q n words reply mid) lent_is f
 
         pub refused_at : (n : Refusal) → Fetched (take (at + cursor_size - at) (drop at b)) s q (Err n) words reply mid
-            → (exit : List ℕ) (r : Result ℕ Refusal) → Refuses msg n r mid exit
+            → (exit : List ℕ) (r : Result ℕ Refusal) → RefusesFor msg n r mid exit
             → Answers (seat_message (rows_of (catalogue s)) (seat_of b) m) r (put b at (at + cursor_size - at) words) reply exit
         refused_at n f exit r w =
             rw (left_is words, words_back cursor.0 cursor.1 n words mid (fetched_is (Err n) f))

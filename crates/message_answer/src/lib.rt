@@ -28,18 +28,18 @@ fn fetch(
 {
     let request = match fetch_request::read(message) {
         Ok(request) => request,
-        Err(refusal) => return message_gate::refuse(reply, msg, refusal),
+        Err(refusal) => return message_gate::refuse_for(reply, msg, refusal),
     };
     let handle = Handle(request.handle);
     let size = request.size;
     if !table_handle::is_open(seat, handle) {
-        return message_gate::refuse(reply, msg, Refusal::HandleClosed);
+        return message_gate::refuse_for(reply, msg, Refusal::HandleClosed);
     }
     let at = table_handle::cursor_at(handle);
     let end = at + table::CURSOR_SIZE;
     match fetch_serve::fetch(&mut seat[at..end], request, catalogue, places, reply) {
         Ok(()) => Ok(size),
-        Err(refusal) => message_gate::refuse(reply, msg, refusal),
+        Err(refusal) => message_gate::refuse_for(reply, msg, refusal),
     }
 }
 
@@ -63,7 +63,7 @@ fn answer_on(
         Ok(Kind::FreeCursor) => message_cursor::free(seat, message, reply, msg),
         Ok(Kind::GetRows) => fetch(seat, message, catalogue, places, reply, msg),
         Ok(Kind::SetBindings) => message_cursor::bind(seat, message, reply, msg),
-        Err(refusal) => message_gate::refuse(reply, msg, refusal),
+        Err(refusal) => message_gate::refuse_for(reply, msg, refusal),
     }
 }
 

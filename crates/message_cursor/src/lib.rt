@@ -39,7 +39,7 @@ pub fn disconnect(
         seat.new reply.old reply.new }
 {
     if message.len() != wire::HEADER_SIZE {
-        return message_gate::refuse(reply, msg, Refusal::BodyMalformed);
+        return message_gate::refuse_for(reply, msg, Refusal::BodyMalformed);
     }
     table_write::clear(seat);
     Ok(0)
@@ -57,11 +57,11 @@ pub fn free(
         seat.new reply.old reply.new }
 {
     if message.len() != FREE_SIZE {
-        return message_gate::refuse(reply, msg, Refusal::BodyMalformed);
+        return message_gate::refuse_for(reply, msg, Refusal::BodyMalformed);
     }
     let handle = Handle(wire_word::word(message, wire::HANDLE_AT));
     if !table_handle::is_open(seat, handle) {
-        return message_gate::refuse(reply, msg, Refusal::HandleClosed);
+        return message_gate::refuse_for(reply, msg, Refusal::HandleClosed);
     }
     close(seat, handle);
     let left = table_handle::open_count(seat);
@@ -124,7 +124,7 @@ pub fn bind(
 {
     let mut records = [0u32; bindings::ROOM_WORDS];
     let Some(read) = bindings_read::read(message, &mut records) else {
-        return message_gate::refuse(reply, msg, Refusal::BodyMalformed);
+        return message_gate::refuse_for(reply, msg, Refusal::BodyMalformed);
     };
     let handle = Handle(read.handle);
     let count = read.count;
@@ -132,7 +132,7 @@ pub fn bind(
     let opens = table_handle::is_open(seat, handle);
     let fits = bindings_fit::fit(&records, count, width);
     if let Err(refusal) = first_of(opens, fits) {
-        return message_gate::refuse(reply, msg, refusal);
+        return message_gate::refuse_for(reply, msg, refusal);
     }
     rebind(seat, handle, &records, count, width);
     wire_lay_word::lay_header(reply, msg, 0);

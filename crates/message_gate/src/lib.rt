@@ -8,7 +8,7 @@ ghost use Rattle.wire.specs.Header.{header_size, message_most};
 ghost use Rattle.wire.specs.Laid.{lay, four_words};
 ghost use Rattle.table.specs.Seat.{seat_of};
 ghost use Rattle.message.specs.Message.{kind_number, kind_of, tested, msg_of, gate_causes, count_of};
-ghost use Rattle.message.specs.AnswerTold.{kind_at, gated, Refuses};
+ghost use Rattle.message.specs.AnswerTold.{kind_at, gated, Refuses, RefusesFor};
 
 use message::Kind;
 use refusal::Refusal;
@@ -110,23 +110,23 @@ pub fn gate(
     }
 }
 
-// The header with the status of the refusal that has a number. Answers the count of its bytes.
-pub fn lay_refusal(reply: &mut [u8], msg: u32, number: u32) -> u32
-    requires { (header_size ≤ length reply.old) × (number < 17) }
-    ensures { (result ≡ 16) × (reply.new ≡ lay reply.old 0 (four_words msg (status_of number) 0 0)) }
-{
-    wire_lay_word::lay_header(reply, msg, status(number));
-    wire::HEADER_SIZE as u32
-}
-
-// A refusal from 6 on: the header with its status.
-#[tactic(auto, using(refusal::proofs::Numbers::number_most))]
-pub fn refuse(reply: &mut [u8], msg: u32, refusal: Refusal) -> Result<u32, Refusal>
-    requires { header_size ≤ length reply.old }
+// A refusal from 6 on, by its number: the header with its status. Answers the number and the count of bytes.
+pub fn refuse(reply: &mut [u8], msg: u32, refusal: u32) -> (u32, u32)
+    requires { (header_size ≤ length reply.old) × (refusal < 17) }
     ensures { Refuses msg refusal result reply.old reply.new }
 {
-    lay_refusal(reply, msg, number(refusal));
-    Err(refusal)
+    wire_lay_word::lay_header(reply, msg, status(refusal));
+    (refusal, wire::HEADER_SIZE as u32)
+}
+
+// The same by its cause, as the fault of an answer.
+#[tactic(auto, using(refusal::proofs::Numbers::number_most))]
+pub fn refuse_for(reply: &mut [u8], msg: u32, cause: Refusal) -> Result<u32, Refusal>
+    requires { header_size ≤ length reply.old }
+    ensures { RefusesFor msg cause result reply.old reply.new }
+{
+    refuse(reply, msg, number(cause));
+    Err(cause)
 }
 
 // The count of reply bytes of an answer.

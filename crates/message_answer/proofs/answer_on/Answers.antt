@@ -32,4 +32,4 @@ returns-in-Err c =
     (gate_refuses b m c.in-Err.refusal
     (sym c.in-Err.is ∙ c.gate.ensures
     ∙ ap (λ (x : Option Kind). gated x (first_cause (gate_causes (seat_of b) m))) (c.kind-kind.ensures ∙ ap (λ (n : ℕ). kind_at (kind_of n)) c.word-msg.ensures)))
-    c.refuse.ensures
+    c.refuse_for.ensures

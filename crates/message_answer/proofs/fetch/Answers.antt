@@ -22,7 +22,7 @@ returns-in-Err c =
     let n = malformed_is (request m) (sym c.in-Err.ensures) in
     refused_by_lem b m reply msg 2 c.requires.0 (rows_of (catalogue s)) _
     (not_asked b m reply msg c.requires.0 s c.args.places.now c.requires.1 n.0 ∙ sym (ap refusal_number n.1))
-    _ _ _ c.refuse.ensures
+    _ _ _ c.refuse_for.ensures
 
 pub returns-then-not-is_open : goal.returns-then-not-is_open
 returns-then-not-is_open c =
@@ -35,7 +35,7 @@ returns-then-not-is_open c =
     refused_by_lem b m reply msg 2 c.requires.0 (rows_of (catalogue s)) HandleClosed
     (rows_closed b m reply msg c.requires.0 s c.args.places.now c.requires.1 _ e
     (ap (λ (h : ℕ). is_open (cursor_in (seat_in b) h)) (sym (request_handle m _ e)) ∙ sym c.is_open.ensures ∙ c.if-not-is_open.true))
-    _ _ _ c.refuse-then-not-is_open.ensures
+    _ _ _ c.refuse_for-then-not-is_open.ensures
 
 pub fetch-requires : goal.fetch-requires
 fetch-requires c =
@@ -56,4 +56,4 @@ returns-in-Err-fetch c =
     let m = c.args.message.now in
     let e = asked_is (request m) (sym c.in-Ok.ensures) in
     refused_at c.args.seat.now m c.args.reply.now c.args.msg c.requires.0 c.args.catalogue.now c.args.places.now c.requires.1 _ e
-    (sym c.is_open.ensures ∙ c.if-not-is_open.false) _ c.cursor_at-at.ensures _ _ c.in-Err-fetch.refusal c.in-Err-fetch.ensures _ _ c.refuse-in-Err-fetch.ensures
+    (sym c.is_open.ensures ∙ c.if-not-is_open.false) _ c.cursor_at-at.ensures _ _ c.in-Err-fetch.refusal c.in-Err-fetch.ensures _ _ c.refuse_for-in-Err-fetch.ensures

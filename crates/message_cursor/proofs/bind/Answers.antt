@@ -13,7 +13,7 @@ returns-in_default c = λ rows.
     let m = c.args.message.now in
     refused_by_lem b m c.args.reply.now c.args.msg 3 c.requires rows BodyMalformed
     (sym (unread_causes b m c.args.reply.now c.args.msg c.requires rows _ (rw c.in_default.is at c.read.ensures)))
-    _ _ _ c.refuse.ensures
+    _ _ _ c.refuse_for.ensures
 
 pub returns-in-Err : goal.returns-in-Err
 returns-in-Err c = λ rows.
@@ -22,7 +22,7 @@ returns-in-Err c = λ rows.
     refused_by_lem b m c.args.reply.now c.args.msg 3 c.requires rows c.in-Err.refusal
     (sym (found_causes b m c.args.reply.now c.args.msg c.requires rows _ _ (rw c.in-Some.is at c.read.ensures) _ _ c.is_open-opens.ensures c.fit-fits.ensures)
     ∙ refused_number _ tt c.in-Err.refusal (found_under false c.is_open-opens.result c.fit-fits.result) c.in-Err.ensures)
-    _ _ _ c.refuse-in-Err.ensures
+    _ _ _ c.refuse_for-in-Err.ensures
 
 pub returns : goal.returns
 returns c = λ rows.

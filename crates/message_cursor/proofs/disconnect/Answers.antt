@@ -10,7 +10,7 @@ returns-then-message-ne-HEADER_SIZE c = λ rows.
     let m = c.args.message.now in
     refused_by_lem b m c.args.reply.now c.args.msg 0 c.requires rows BodyMalformed
     (body_there b m c.args.reply.now c.args.msg c.requires rows c.if-message-ne-HEADER_SIZE.true)
-    _ _ _ c.refuse.ensures
+    _ _ _ c.refuse_for.ensures
 
 pub returns : goal.returns
 returns c = λ rows.

@@ -20,7 +20,7 @@ returns-then-message-ne-FREE_SIZE c = λ rows.
     let m = c.args.message.now in
     refused_by_lem b m c.args.reply.now c.args.msg 1 c.requires rows BodyMalformed
     (not_four b m c.args.reply.now c.args.msg c.requires rows c.if-message-ne-FREE_SIZE.true)
-    _ _ _ c.refuse.ensures
+    _ _ _ c.refuse_for.ensures
 
 pub returns-then-not-is_open : goal.returns-then-not-is_open
 returns-then-not-is_open c = λ rows.
@@ -29,7 +29,7 @@ returns-then-not-is_open c = λ rows.
     refused_by_lem b m c.args.reply.now c.args.msg 1 c.requires rows HandleClosed
     (not_open_lem b m c.args.reply.now c.args.msg c.requires rows c.if-message-ne-FREE_SIZE.false
     (ap (λ (h : ℕ). is_open (cursor_in (seat_in b) h)) (sym c.word.ensures) ∙ sym c.is_open.ensures ∙ c.if-not-is_open.true))
-    _ _ _ c.refuse-then-not-is_open.ensures
+    _ _ _ c.refuse_for-then-not-is_open.ensures
 
 pub returns : goal.returns
 returns c = λ rows.
