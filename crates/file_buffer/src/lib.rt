@@ -33,13 +33,10 @@ pub fn call_of(line: &[u8], cut: bool) -> Result<Call, Reason>
     ensures { (result ≡ kept_call line.now cut) × LineReady (length line.now) result }
 {
     let end = line_word::before_comment(line);
-    if end < line.len() {
-        line_call::read(&line[..end])
-    } else if cut {
-        Err(Reason::TooLong)
-    } else {
-        line_call::read(line)
+    if cut && end == line.len() {
+        return Err(Reason::TooLong);
     }
+    line_call::read(&line[..end])
 }
 
 // Writes the waiting output where it is more than so much. Answers how much waits then.

@@ -23,7 +23,9 @@ fn number_word(line: &[u8], at: usize) -> Result<(u32, usize), Reason>
     Ok((value, end))
 }
 
-// The hex word from a place on, of at most so many bytes. A `-` is none.
+// The hex word from a place on, of at most so many bytes. A `-` is none. It stays a call: its loop over the digits then has the
+// registers to itself.
+#[inline(never)]
 #[tactic(auto, unfolding(line::specs::Line::hex_word, line::specs::Line::hex_in))]
 fn hex_word(line: &[u8], at: usize, most: usize) -> Result<Digits, Reason>
     requires { at ≤ length line.now }
