@@ -1,9 +1,9 @@
 // Bindings in a message: a column, and the whole.
 #![tactic(auto)]
 
-ghost use Rattle.std.specs.Prelude.{◌≡◌};
+ghost use Rattle.std.specs.Prelude.{◌≡◌, Some};
 ghost use Rattle.bindings.specs.ColumnPlaces.{spot_on, value_on, column_on};
-ghost use Rattle.bindings.specs.Column.{no_words};
+ghost use Rattle.lists.specs.Options.{and_then};
 ghost use Rattle.bindings.specs.BindingsPlaces.{columns_at, columns_on, keeping};
 ghost use Rattle.bindings.specs.BindingsTold.{Told};
 
@@ -77,23 +77,19 @@ const COUNT_AT: usize = 32;
 
 const COLUMNS_AT: usize = 36;
 
-// Reads the columns, to the message's end, and keeps the first five.
-fn read_columns(message: &[u8], count: u32) -> Option<[u32; bindings::ROOM_WORDS]>
-    ensures { result ≡ keeping 0 no_words (columns_on count message.now columns_at) }
+// Reads the columns, to the message's end, and keeps the first five in the records. None where they are malformed.
+fn read_columns(message: &[u8], count: u32, records: &mut [u32; bindings::ROOM_WORDS]) -> Option<()>
+    ensures { and_then result (λ read. Some records.new)
+        ≡ keeping 0 records.old (columns_on count message.now columns_at) }
 {
-    let mut records = [0; bindings::ROOM_WORDS];
     let mut at = COLUMNS_AT;
     for k in 0..count as usize {
         let place = wire_field::padded_on(message, at, 4)?;
         let (column, next) = column_on(message, place)?;
-        bindings_record::keep(&mut records, k, column);
+        bindings_record::keep(records, k, column);
         at = next;
     }
-    if at == message.len() {
-        Some(records)
-    } else {
-        None
-    }
+    if at == message.len() { Some(()) } else { None }
 }
 
 // Reads a message that sets bindings: handle, row width and count of columns, and in `records`, nine words to a column, the
@@ -110,7 +106,10 @@ pub fn read(message: &[u8], records: &mut [u32; bindings::ROOM_WORDS]) -> Option
         return None;
     }
     let count = wire_word::word(message, COUNT_AT);
-    *records = read_columns(message, count)?;
+    if read_columns(message, count, records).is_none() {
+        bindings_record::clear(records);
+        return None;
+    }
     Some(BindingsRead {
         handle: wire_word::word(message, wire::HANDLE_AT),
         width: wire_word::word(message, WIDTH_AT),

@@ -37,6 +37,16 @@ pub fn move_to(cursor: &mut [u32; table::CURSOR_SIZE], position: u32)
     cursor[table::POSITION] = position;
 }
 
+// Copies words one by one: the library's copy would be a call of memcpy, which the C library then asks of its host.
+fn copy(from: &[u32], into: &mut [u32])
+    requires { length from.now ≡ length into.old }
+    ensures { into.new ≡ from.now }
+{
+    for i in 0..into.len() {
+        into[i] = from[i];
+    }
+}
+
 // Sets a cursor's bindings.
 pub fn bind(
     cursor: &mut [u32; table::CURSOR_SIZE],
@@ -49,5 +59,5 @@ pub fn bind(
 {
     cursor[table::COLUMNS] = count;
     cursor[table::WIDTH] = width;
-    cursor[table::RECORDS..table::ROWS].copy_from_slice(records);
+    copy(records, &mut cursor[table::RECORDS..table::ROWS]);
 }

@@ -1,5 +1,7 @@
 -- Whatever is malformed leaves the words clear; what is read is what the columns leave of clear words. Assumes nothing.
 use mathlib.Core.Path.{sym, ◌∙◌}
+use native.Mathlib.Omega.{arith}
+use Rattle.std.proofs.lemmas.Grind.{common_steps}
 use Rattle.bindings.proofs.Told.{told_short, told_described, told_columns, told_some}
 use Rattle.bindings_read.proofs.read.Goals as goal
 
@@ -11,14 +13,14 @@ returns-then-described-message c =
     rw c.clear.ensures
     (told_described c.args.message.now c.if-message-lt-COLUMNS_AT.false (λ e. c.if-described-message.true (c.word-described.ensures ∙ e)))
 
-pub returns-in_err-records : goal.returns-in_err-records
-returns-in_err-records c =
-    rw (c.from_residual.ensures, c.clear.ensures)
+pub returns-then-is_none : goal.returns-then-is_none
+returns-then-is_none c =
+    rw c.clear-then-is_none.ensures
     (told_columns c.args.message.now c.if-message-lt-COLUMNS_AT.false (sym c.word-described.ensures ∙ c.if-described-message.false)
-    (sym c.in_err-records.was ∙ (rw c.word-count.ensures at c.read_columns.ensures)))
+    (grind (arith, common_steps)))
 
 pub returns : goal.returns
 returns c =
     rw (c.word.ensures, c.word-2.ensures, c.word-count.ensures)
-    (told_some c.args.message.now c.if-message-lt-COLUMNS_AT.false (sym c.word-described.ensures ∙ c.if-described-message.false) c.in_ok-records.field-0
-    (sym c.in_ok-records.was ∙ (rw c.word-count.ensures at c.read_columns.ensures)))
+    (told_some c.args.message.now c.if-message-lt-COLUMNS_AT.false (sym c.word-described.ensures ∙ c.if-described-message.false) c.read_columns.new.records
+    (grind (arith, common_steps)))
