@@ -17,12 +17,14 @@ pub fn number_of(property: u32, row: &Fields) -> u64
     }
 }
 
-// The row's text that a property names: any but the label stands for the note.
+// The row's text that a property names: any but the label stands for the note. The choice is made once, of the place that both
+// of its numbers are read from.
 pub fn text_of(property: u32, row: &Fields) -> Text
     ensures { result ≡ of_texts property row.now.label row.now.note }
 {
-    match property {
-        wire::LABEL => row.label,
-        _ => row.note,
-    }
+    let text = match property {
+        wire::LABEL => &row.label,
+        _ => &row.note,
+    };
+    *text
 }

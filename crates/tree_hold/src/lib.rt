@@ -22,15 +22,15 @@ const CONTENT_PROPERTY_AT: usize = tree::CONTENT_SPEC_AT + wire::PR_SPEC_AT;
 
 const UNITS_AT: usize = tree::PHRASE_FROM + 4;
 
-// A property leaf.
+// A property leaf. The relation and the value are read last, beside the test of them.
 fn relation_told(unread: &[u8], row: &Fields) -> Verdict
     requires { 44 ≤ length unread.now }
     ensures { result ≡ relation_told unread.now row.now }
 {
-    let relop = wire_word::word(unread, tree::RELOP_AT);
     let property = wire_word::word(unread, RELATION_PROPERTY_AT);
-    let value = wire_word::word(unread, tree::VALUE_AT) as u64;
     let mine = catalogue_field::number_of(property, row);
+    let relop = wire_word::word(unread, tree::RELOP_AT);
+    let value = wire_word::word(unread, tree::VALUE_AT) as u64;
     let holds = tree_match::relation_holds(relop, mine, value);
     Verdict {
         holds,
@@ -133,20 +133,17 @@ fn list_told(kind: u32, unread: &[u8], levels: u32, catalogue: &[u8], row: &Fiel
     while 0 < left {
         left -= 1;
         let part = &unread[at..];
-        if wire_word::word(part, 0) == tree::PROPERTY {
-            let leaf = relation_told(part, row);
+        let holds = if wire_word::word(part, 0) == tree::PROPERTY {
             at += tree::RELATION_SIZE;
-            if tree_verdict::decides(kind, leaf.holds) {
-                let end = tree_size::list_end(unread, left, at, levels);
-                return Verdict { used: end, ..leaf };
-            }
-            continue;
-        }
-        let child = child_told(part, levels, catalogue, row);
-        at += child.used;
-        if tree_verdict::decides(kind, child.holds) {
+            relation_told(part, row).holds
+        } else {
+            let child = child_told(part, levels, catalogue, row);
+            at += child.used;
+            child.holds
+        };
+        if tree_verdict::decides(kind, holds) {
             let used = tree_size::list_end(unread, left, at, levels);
-            return Verdict { used, ..child };
+            return Verdict { holds, used };
         }
     }
     Verdict {

@@ -4,7 +4,7 @@
 ghost use Rattle.std.specs.Prelude.{◌≡◌, ◌≤◌, ◌^◌, ◌<◌};
 ghost use Rattle.tree.specs.Parts.{phrase_at, content_at, relation_at, leaf_at};
 
-use lists_test::within;
+use lists_test::{both, within};
 use tree::{Content, Parts, PhraseAt, Relation};
 
 // The phrase that stands at an index, with the padding on both sides of it.
@@ -26,9 +26,11 @@ fn read_phrase(unread: &[u8], place: usize, at: usize) -> Option<PhraseAt>
     if unread.len() < next {
         return None;
     }
-    let fits = within(1, tree::PHRASE_MOST, units)
-        && wire_padding::zero_at(unread, at, before)
-        && wire_padding::zero_at(unread, end, after);
+    let padded = both(
+        wire_padding::zero_at(unread, at, before),
+        wire_padding::zero_at(unread, end, after),
+    );
+    let fits = within(1, tree::PHRASE_MOST, units) && padded;
     fits.then_some(PhraseAt { start, count, next })
 }
 

@@ -49,11 +49,11 @@ pub fn list_end(unread: &[u8], count: u32, from: usize, levels: u32) -> usize
 {
     let mut at = from;
     for measured in 0..count {
-        let size = if wire_word::word(unread, at) == tree::PROPERTY {
-            tree::RELATION_SIZE
-        } else {
-            node_size(&unread[at..], levels)
-        };
+        if wire_word::word(unread, at) == tree::PROPERTY {
+            at += tree::RELATION_SIZE;
+            continue;
+        }
+        let size = node_size(&unread[at..], levels);
         at += size;
     }
     at

@@ -2,13 +2,14 @@
 -- list calls its children at its own. As long as no child decides, those that are left say all that the list says (the loops' invariant).
 -- Assumes nothing.
 use Prim.Native.Nat.{◌-◌}
-use mathlib.Core.Path.{ap, sym, ◌∙◌}
+use mathlib.Core.Path.{ap, refl, sym, ◌∙◌}
 use native.Mathlib.Omega.{arith}
 use Rattle.catalogue.specs.CataloguePlaces.{row_of}
 use Rattle.tree.specs.declared.Verdict.{Verdict}
 use Rattle.tree.specs.Reader.{read_tree}
 use Rattle.tree.proofs.Nodes.{node_levels, node_inside, branch_found, branch_told, branch_tells, not_found, not_told, told_inside, leaf_kind, leaf_found, leaf_answer, property_inside, property_told, left_first, next_found, next_inside, next_ends, next_open, next_ready, next_told, next_decides, none_holds, none_told}
 use Rattle.tree_hold.proofs.+child_told_list_holds_list_told_near_told_node_told.Goals as goal
+use Rattle.tree_hold.proofs.+child_told_list_holds_list_told_near_told_node_told.Goals.{list_told-then-word-eq-PROPERTY, list_told-else-word-eq-PROPERTY}
 
 pub child_told-word-kind-requires : goal.child_told-word-kind-requires
 child_told-word-kind-requires t c = omega (arith, node_inside c.args.levels c.args.unread.now c.requires.0)
@@ -56,16 +57,34 @@ list_told-slice_bounds-part-count t c =
 pub list_told-slice_bounds-part-start : goal.list_told-slice_bounds-part-start
 list_told-slice_bounds-part-start t c = list_told-slice_bounds-part-count t c
 
+pub list_told-word-requires : goal.list_told-word-requires
+list_told-word-requires t c =
+    let a = c.args in
+    let l = c.loop-left in
+    omega (arith, node_inside a.levels _ (next_found a.levels a.kind a.unread.now (row_of a.catalogue.now a.row.now) c.requires.0 _ l.at l.invariant (omega (arith, c.loop-left-test.true))))
+
+pub list_told-relation_told-requires : goal.list_told-relation_told-requires
+list_told-relation_told-requires t c =
+    let a = c.args in
+    let l = c.loop-left in
+    property_inside a.levels _ (next_found a.levels a.kind a.unread.now (row_of a.catalogue.now a.row.now) c.requires.0 _ l.at l.invariant (omega (arith, c.loop-left-test.true))) (sym c.if-word-eq-PROPERTY.true ∙ c.word.ensures)
+
+pub list_told-overflow_add-at : goal.list_told-overflow_add-at
+list_told-overflow_add-at t c =
+    let a = c.args in
+    let l = c.loop-left in
+    let found = next_found a.levels a.kind a.unread.now (row_of a.catalogue.now a.row.now) c.requires.0 _ l.at l.invariant (omega (arith, c.loop-left-test.true)) in
+    let tells = property_told a.levels _ found (sym c.if-word-eq-PROPERTY.true ∙ c.word.ensures) a.catalogue.now a.row.now _ refl in
+    omega (arith, next_ends a.levels a.kind a.unread.now (row_of a.catalogue.now a.row.now) c.requires.0 _ l.at l.invariant (omega (arith, c.loop-left-test.true)) _ 44 tells)
+
 pub list_told-child_told-child-requires : goal.list_told-child_told-child-requires
 list_told-child_told-child-requires t c =
     let a = c.args in
-    let l = c.loop-left in (
-      omega (arith, c.decreases),
-      (next_found a.levels a.kind a.unread.now (row_of a.catalogue.now a.row.now) c.requires.0 _ l.at l.invariant (omega (arith, c.loop-left-test.true)), c.requires.1),
-    )
+    let l = c.loop-left in
+    (omega (arith, c.decreases), (next_found a.levels a.kind a.unread.now (row_of a.catalogue.now a.row.now) c.requires.0 _ l.at l.invariant (omega (arith, c.loop-left-test.true)), c.requires.1))
 
-pub list_told-overflow_add-at-in-loop-left : goal.list_told-overflow_add-at-in-loop-left
-list_told-overflow_add-at-in-loop-left t c =
+pub list_told-overflow_add-at-else-word-eq-PROPERTY : goal.list_told-overflow_add-at-else-word-eq-PROPERTY
+list_told-overflow_add-at-else-word-eq-PROPERTY t c =
     let a = c.args in
     let l = c.loop-left in
     let v = c.child_told-child.result in
@@ -75,73 +94,43 @@ pub list_told-list_end-used-requires : goal.list_told-list_end-used-requires
 list_told-list_end-used-requires t c =
     let a = c.args in
     let l = c.loop-left in
-    let v = c.child_told-child.result in
-    (next_ready a.levels a.kind a.unread.now (row_of a.catalogue.now a.row.now) c.requires.0 _ l.at l.invariant (omega (arith, c.loop-left-test.true)) v.holds v.used c.child_told-child.ensures)
-
-pub list_told-returns-then-decides-2 : goal.list_told-returns-then-decides-2
-list_told-returns-then-decides-2 t c =
-    let a = c.args in
-    let l = c.loop-left in
-    let v = c.child_told-child.result in
-    next_told a.levels a.kind a.unread.now (row_of a.catalogue.now a.row.now) c.requires.0 _ l.at l.invariant (omega (arith, c.loop-left-test.true)) v.holds v.used c.child_told-child.ensures (sym c.decides-in-loop-left.ensures ∙ c.if-decides-2.true) c.list_end-used.result c.list_end-used.ensures
-
-pub list_told-loop-left-preserved : goal.list_told-loop-left-preserved
-list_told-loop-left-preserved t c =
-    let a = c.args in
-    let l = c.loop-left in
-    let v = c.child_told-child.result in
-    (next_open a.levels a.kind a.unread.now (row_of a.catalogue.now a.row.now) c.requires.0 _ l.at l.invariant (omega (arith, c.loop-left-test.true)) v.holds v.used c.child_told-child.ensures (sym c.decides-in-loop-left.ensures ∙ c.if-decides-2.false))
-
-pub list_told-word-requires : goal.list_told-word-requires
-list_told-word-requires t c =
-    let a = c.args in
-    let l = c.loop-left in
     let found = next_found a.levels a.kind a.unread.now (row_of a.catalogue.now a.row.now) c.requires.0 _ l.at l.invariant (omega (arith, c.loop-left-test.true)) in
-    omega (arith, node_inside a.levels _ found)
-
-pub list_told-relation_told-leaf-requires : goal.list_told-relation_told-leaf-requires
-list_told-relation_told-leaf-requires t c =
-    let a = c.args in
-    let l = c.loop-left in
-    let found = next_found a.levels a.kind a.unread.now (row_of a.catalogue.now a.row.now) c.requires.0 _ l.at l.invariant (omega (arith, c.loop-left-test.true)) in
-    let is = sym c.if-word-eq-PROPERTY.true ∙ c.word.ensures in
-    property_inside a.levels _ found is
-
-pub list_told-overflow_add-at : goal.list_told-overflow_add-at
-list_told-overflow_add-at t c =
-    let a = c.args in
-    let l = c.loop-left in
-    let found = next_found a.levels a.kind a.unread.now (row_of a.catalogue.now a.row.now) c.requires.0 _ l.at l.invariant (omega (arith, c.loop-left-test.true)) in
-    let is = sym c.if-word-eq-PROPERTY.true ∙ c.word.ensures in
-    let tells = property_told a.levels _ found is a.catalogue.now a.row.now c.relation_told-leaf.result.holds (ap (λ (x : Verdict). x.holds) c.relation_told-leaf.ensures) in
-    omega (arith, next_ends a.levels a.kind a.unread.now (row_of a.catalogue.now a.row.now) c.requires.0 _ l.at l.invariant (omega (arith, c.loop-left-test.true)) c.relation_told-leaf.result.holds 44 tells)
-
-pub list_told-list_end-end-requires : goal.list_told-list_end-end-requires
-list_told-list_end-end-requires t c =
-    let a = c.args in
-    let l = c.loop-left in
-    let found = next_found a.levels a.kind a.unread.now (row_of a.catalogue.now a.row.now) c.requires.0 _ l.at l.invariant (omega (arith, c.loop-left-test.true)) in
-    let is = sym c.if-word-eq-PROPERTY.true ∙ c.word.ensures in
-    let tells = property_told a.levels _ found is a.catalogue.now a.row.now c.relation_told-leaf.result.holds (ap (λ (x : Verdict). x.holds) c.relation_told-leaf.ensures) in
-    (next_ready a.levels a.kind a.unread.now (row_of a.catalogue.now a.row.now) c.requires.0 _ l.at l.invariant (omega (arith, c.loop-left-test.true)) c.relation_told-leaf.result.holds 44 tells)
+    elim c.if-word-eq-PROPERTY.branch [
+      | list_told-then-word-eq-PROPERTY w ↦
+          let tells = property_told a.levels _ found (sym w.if-word-eq-PROPERTY.true ∙ c.word.ensures) a.catalogue.now a.row.now w.relation_told.result.holds (ap (λ (x : Verdict). x.holds) w.relation_told.ensures) in
+          rw w.at-is (next_ready a.levels a.kind a.unread.now (row_of a.catalogue.now a.row.now) c.requires.0 _ l.at l.invariant (omega (arith, c.loop-left-test.true)) w.relation_told.result.holds 44 tells)
+      | list_told-else-word-eq-PROPERTY w ↦
+          let v = w.child_told-child.result in
+          rw w.at-is (next_ready a.levels a.kind a.unread.now (row_of a.catalogue.now a.row.now) c.requires.0 _ l.at l.invariant (omega (arith, c.loop-left-test.true)) v.holds v.used w.child_told-child.ensures)
+    ]
 
 pub list_told-returns-then-decides : goal.list_told-returns-then-decides
 list_told-returns-then-decides t c =
     let a = c.args in
     let l = c.loop-left in
     let found = next_found a.levels a.kind a.unread.now (row_of a.catalogue.now a.row.now) c.requires.0 _ l.at l.invariant (omega (arith, c.loop-left-test.true)) in
-    let is = sym c.if-word-eq-PROPERTY.true ∙ c.word.ensures in
-    let tells = property_told a.levels _ found is a.catalogue.now a.row.now c.relation_told-leaf.result.holds (ap (λ (x : Verdict). x.holds) c.relation_told-leaf.ensures) in
-    next_told a.levels a.kind a.unread.now (row_of a.catalogue.now a.row.now) c.requires.0 _ l.at l.invariant (omega (arith, c.loop-left-test.true)) c.relation_told-leaf.result.holds 44 tells (sym c.decides.ensures ∙ c.if-decides.true) c.list_end-end.result c.list_end-end.ensures
+    elim c.if-word-eq-PROPERTY.branch [
+      | list_told-then-word-eq-PROPERTY w ↦
+          let tells = property_told a.levels _ found (sym w.if-word-eq-PROPERTY.true ∙ c.word.ensures) a.catalogue.now a.row.now w.relation_told.result.holds (ap (λ (x : Verdict). x.holds) w.relation_told.ensures) in
+          rw w.holds-is (next_told a.levels a.kind a.unread.now (row_of a.catalogue.now a.row.now) c.requires.0 _ l.at l.invariant (omega (arith, c.loop-left-test.true)) w.relation_told.result.holds 44 tells (sym (rw w.holds-is at c.decides.ensures) ∙ c.if-decides.true) c.list_end-used.result (rw w.at-is at c.list_end-used.ensures))
+      | list_told-else-word-eq-PROPERTY w ↦
+          let v = w.child_told-child.result in
+          rw w.holds-is (next_told a.levels a.kind a.unread.now (row_of a.catalogue.now a.row.now) c.requires.0 _ l.at l.invariant (omega (arith, c.loop-left-test.true)) v.holds v.used w.child_told-child.ensures (sym (rw w.holds-is at c.decides.ensures) ∙ c.if-decides.true) c.list_end-used.result (rw w.at-is at c.list_end-used.ensures))
+    ]
 
-pub list_told-loop-left-preserved-then-word-eq-PROPERTY : goal.list_told-loop-left-preserved-then-word-eq-PROPERTY
-list_told-loop-left-preserved-then-word-eq-PROPERTY t c =
+pub list_told-loop-left-preserved : goal.list_told-loop-left-preserved
+list_told-loop-left-preserved t c =
     let a = c.args in
     let l = c.loop-left in
     let found = next_found a.levels a.kind a.unread.now (row_of a.catalogue.now a.row.now) c.requires.0 _ l.at l.invariant (omega (arith, c.loop-left-test.true)) in
-    let is = sym c.if-word-eq-PROPERTY.true ∙ c.word.ensures in
-    let tells = property_told a.levels _ found is a.catalogue.now a.row.now c.relation_told-leaf.result.holds (ap (λ (x : Verdict). x.holds) c.relation_told-leaf.ensures) in
-    (next_open a.levels a.kind a.unread.now (row_of a.catalogue.now a.row.now) c.requires.0 _ l.at l.invariant (omega (arith, c.loop-left-test.true)) c.relation_told-leaf.result.holds 44 tells (sym c.decides.ensures ∙ c.if-decides.false))
+    elim c.if-word-eq-PROPERTY.branch [
+      | list_told-then-word-eq-PROPERTY w ↦
+          let tells = property_told a.levels _ found (sym w.if-word-eq-PROPERTY.true ∙ c.word.ensures) a.catalogue.now a.row.now w.relation_told.result.holds (ap (λ (x : Verdict). x.holds) w.relation_told.ensures) in
+          rw w.at-is (next_open a.levels a.kind a.unread.now (row_of a.catalogue.now a.row.now) c.requires.0 _ l.at l.invariant (omega (arith, c.loop-left-test.true)) w.relation_told.result.holds 44 tells (sym (rw w.holds-is at c.decides.ensures) ∙ c.if-decides.false))
+      | list_told-else-word-eq-PROPERTY w ↦
+          let v = w.child_told-child.result in
+          rw w.at-is (next_open a.levels a.kind a.unread.now (row_of a.catalogue.now a.row.now) c.requires.0 _ l.at l.invariant (omega (arith, c.loop-left-test.true)) v.holds v.used w.child_told-child.ensures (sym (rw w.holds-is at c.decides.ensures) ∙ c.if-decides.false))
+    ]
 
 pub list_told-returns : goal.list_told-returns
 list_told-returns t c =

@@ -1,14 +1,11 @@
 -- The proof of the cycle of calls {list_end, node_size}. A call from a node to what lies below it has one level less, and a list measures its
 -- children at its own. The rest of a list goes on where the measured child ends (the loop's invariant). Assumes nothing.
 use Prim.Native.Nat.{◌+◌, ◌-◌, ◌<◌}
-use lib.ListN.{length, take, drop}
-use Rattle.tree.specs.SizeTold.{Takes}
 use mathlib.Core.Path.{◌≡◌, sym, ◌∙◌}
 use native.Mathlib.Omega.{arith}
 use Rattle.tree.specs.Reader.{read_tree}
 use Rattle.tree.proofs.Nodes.{node_levels, node_inside, not_found, not_takes, takes_inside, leaf_found, leaf_takes, rest_ended, rest_found, rest_head, rest_property, rest_past, rest_room, branch_ready, branch_takes, branch_found, branch_head}
 use Rattle.tree_size.proofs.+list_end_node_size.Goals as goal
-use Rattle.tree_size.proofs.+list_end_node_size.Goals.{list_end-then-word-eq-PROPERTY, list_end-else-word-eq-PROPERTY}
 
 pub list_end-loop-measured-init : goal.list_end-loop-measured-init
 list_end-loop-measured-init t c = let all : c.args.count - 0 ≡ c.args.count = omega arith in rw all (λ place last l. l)
@@ -39,25 +36,32 @@ list_end-overflow_add-at t c =
     let a = c.args in
     let l = c.loop-measured in
     let more : 0 < a.count - l.measured = omega (arith, c.loop-measured-test.true) in
-    let takes : Takes (read_tree a.levels) (take (length a.unread.now - l.at) (drop l.at a.unread.now)) c.if-word-eq-PROPERTY.size
-    = elim c.if-word-eq-PROPERTY.branch [
-      | list_end-then-word-eq-PROPERTY w ↦ rw w.size-is (rest_property a.unread.now a.levels a.count a.from c.requires _ l.at l.invariant more (sym w.if-word-eq-PROPERTY.true ∙ c.word.ensures))
-      | list_end-else-word-eq-PROPERTY w ↦ rw w.size-is w.node_size-size.ensures
-    ] in
-    omega (arith, rest_room a.unread.now a.levels a.count a.from c.requires _ l.at l.invariant more c.if-word-eq-PROPERTY.size takes)
+    let takes = rest_property a.unread.now a.levels a.count a.from c.requires _ l.at l.invariant more (sym c.if-word-eq-PROPERTY.true ∙ c.word.ensures) in
+    omega (arith, rest_room a.unread.now a.levels a.count a.from c.requires _ l.at l.invariant more 44 takes)
+
+pub list_end-loop-measured-preserved-then-word-eq-PROPERTY : goal.list_end-loop-measured-preserved-then-word-eq-PROPERTY
+list_end-loop-measured-preserved-then-word-eq-PROPERTY t c =
+    let a = c.args in
+    let l = c.loop-measured in
+    let more : 0 < a.count - l.measured = omega (arith, c.loop-measured-test.true) in
+    let takes = rest_property a.unread.now a.levels a.count a.from c.requires _ l.at l.invariant more (sym c.if-word-eq-PROPERTY.true ∙ c.word.ensures) in
+    let less : a.count - (l.measured + 1) ≡ a.count - l.measured - 1 = omega arith in
+    rw less (rest_past a.unread.now a.levels a.count a.from c.requires _ l.at l.invariant more 44 takes)
+
+pub list_end-overflow_add-at-in-loop-measured : goal.list_end-overflow_add-at-in-loop-measured
+list_end-overflow_add-at-in-loop-measured t c =
+    let a = c.args in
+    let l = c.loop-measured in
+    let more : 0 < a.count - l.measured = omega (arith, c.loop-measured-test.true) in
+    omega (arith, rest_room a.unread.now a.levels a.count a.from c.requires _ l.at l.invariant more c.node_size-size.result c.node_size-size.ensures)
 
 pub list_end-loop-measured-preserved : goal.list_end-loop-measured-preserved
 list_end-loop-measured-preserved t c =
     let a = c.args in
     let l = c.loop-measured in
     let more : 0 < a.count - l.measured = omega (arith, c.loop-measured-test.true) in
-    let takes : Takes (read_tree a.levels) (take (length a.unread.now - l.at) (drop l.at a.unread.now)) c.if-word-eq-PROPERTY.size
-    = elim c.if-word-eq-PROPERTY.branch [
-      | list_end-then-word-eq-PROPERTY w ↦ rw w.size-is (rest_property a.unread.now a.levels a.count a.from c.requires _ l.at l.invariant more (sym w.if-word-eq-PROPERTY.true ∙ c.word.ensures))
-      | list_end-else-word-eq-PROPERTY w ↦ rw w.size-is w.node_size-size.ensures
-    ] in
     let less : a.count - (l.measured + 1) ≡ a.count - l.measured - 1 = omega arith in
-    rw less (rest_past a.unread.now a.levels a.count a.from c.requires _ l.at l.invariant more c.if-word-eq-PROPERTY.size takes)
+    rw less (rest_past a.unread.now a.levels a.count a.from c.requires _ l.at l.invariant more c.node_size-size.result c.node_size-size.ensures)
 
 pub list_end-returns : goal.list_end-returns
 list_end-returns t c =
