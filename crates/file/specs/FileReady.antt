@@ -5,6 +5,6 @@ use Rattle.std.specs.Prelude.{ℕ}
 abbrev pub line_most : ℕ
 line_most = 131072
 
--- the output buffer, at least
+-- the output has at least so many bytes: room for what may wait before a line (`out_full`), and for any answer
 abbrev pub out_size : ℕ
 out_size = 131072

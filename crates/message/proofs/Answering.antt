@@ -1,7 +1,7 @@
 -- The ways that a message on its seat can go: refused, or done. Assumes nothing.
 use mathlib.Core.Path.{◌≡◌, refl, sym, ap, subst, ◌∙◌}
 use mathlib.Core.Bool.{Bool}
-use mathlib.Core.List.{List, ◌++◌}
+use mathlib.Core.List.{List, [], ◌∷◌, ◌++◌}
 use Rattle.std.specs.Prelude.{Option, None, Some, Result, Ok}
 use Rattle.message.specs.declared.Kind.{Kind}
 use Rattle.message.proofs.Gating.{gate_admits, gate_connected}
@@ -28,7 +28,7 @@ use Rattle.refusal.proofs.Numbers.{number_least, number_back, number_given}
 use Rattle.message.specs.Message.{kind_of, kind_number, msg_of, handle_of, disconnects, frees, fetches, rows_causes, gate_causes, body_causes, body_of, seat_causes, SeatOutcome, refused_on, rows_done, done_on, done_by, seat_message, count_of}
 use Rattle.message.specs.AnswerReady.{MessageReady, AdmittedReady}
 use Rattle.message.specs.AnswerTold.{Answers, Refuses, RefusesFor, kind_at, gated}
-use Rattle.refusal.proofs.First.{Numbered, Over, Under, first_stop, first_go, first_over, first_under}
+use Rattle.refusal.proofs.First.{Numbered, Each, first_stop, first_go, first_each}
 
 -- bytes laid over the start of a list
 pub lay_front : (t b : List ℕ) → lay t 0 b ≡ b ++ drop (length b) t
@@ -43,76 +43,44 @@ gate_numbered (Some s) m = ((λ e. omega arith), ((λ e. omega arith), ((λ e. o
 pub words_is : (b m reply : List ℕ) → MessageReady b m reply → b ≡ seat_words (seat_of b)
 words_is b m reply g = (seat_back b g.size g.well).0
 
--- each cause that a message can be refused by on its seat has a number from 6 on
-gate_over : (held : Option Seat) (m : List ℕ) → Over 6 (gate_causes held m)
-gate_over None m = (omega arith, (omega arith, tt))
-gate_over (Some s) m = (omega arith, (omega arith, (omega arith, tt)))
-
-rows_over : (rows : List Row) (o : Option Cursor) (q : Option Request) → Over 6 (rows_causes rows o q)
-rows_over rows None q = tt
-rows_over rows (Some c) None = tt
-rows_over rows (Some c) (Some q) = (omega arith, (omega arith, (omega arith, (omega arith, tt))))
-
-body_over : (rows : List Row) (kind : ℕ) (s : Seat) (m : List ℕ) → Over 6 (body_causes rows kind s m)
-body_over rows kind s m =
-    by_test (eqb kind disconnects)
-    (λ q. rw q (omega arith, tt))
-    (λ q.
-    by_test (eqb kind frees)
-    (λ w. rw (q, w) (omega arith, (omega arith, tt)))
-    (λ w.
-    by_test (eqb kind fetches)
-    (λ e. rw (q, w, e) (omega arith, (omega arith, rows_over rows (cursor_in s (handle_of m)) (request m))))
-    (λ e. rw (q, w, e) (omega arith, (omega arith, (omega arith, tt))))))
-
--- every number of theirs is below 17
-gate_under : (held : Option Seat) (m : List ℕ) → Under 17 (gate_causes held m)
-gate_under None m = (omega arith, (omega arith, tt))
-gate_under (Some s) m = (omega arith, (omega arith, (omega arith, tt)))
-
-rows_under : (rows : List Row) (o : Option Cursor) (q : Option Request) → Under 17 (rows_causes rows o q)
-rows_under rows None q = tt
-rows_under rows (Some c) None = tt
-rows_under rows (Some c) (Some q) = (omega arith, (omega arith, (omega arith, (omega arith, tt))))
-
-body_under : (rows : List Row) (kind : ℕ) (s : Seat) (m : List ℕ) → Under 17 (body_causes rows kind s m)
-body_under rows kind s m =
-    by_test (eqb kind disconnects)
-    (λ q. rw q (omega arith, tt))
-    (λ q.
-    by_test (eqb kind frees)
-    (λ w. rw (q, w) (omega arith, (omega arith, tt)))
-    (λ w.
-    by_test (eqb kind fetches)
-    (λ e. rw (q, w, e) (omega arith, (omega arith, rows_under rows (cursor_in s (handle_of m)) (request m))))
-    (λ e. rw (q, w, e) (omega arith, (omega arith, (omega arith, tt))))))
-
 -- the number that a message on its seat is answered by: 0, or one from 6 to 16
 abbrev Sent : ℕ → Type 0
 Sent zero = Unit {0}
 Sent (suc n) = (6 ≤ suc n) × (suc n < 17)
 
--- so has the first cause of a list where each of them has one
-causes_sent : (a : List (ℕ × Bool)) → Over 6 a → Under 17 a → Sent (first_cause a)
-causes_sent a u w = go (first_cause a) refl
-  where
-    go : (n : ℕ) → first_cause a ≡ n → Sent n
-    go zero e = tt
-    go (suc n) e =
-        (subst (λ (k : ℕ). 6 ≤ k) e (first_over 6 a u (λ z. omega (arith, e, z))), subst (λ (k : ℕ). k < 17) e (first_under 17 a (omega arith) w))
+-- each of its causes has such a number
+gate_sent : (held : Option Seat) (m : List ℕ) → Each Sent (gate_causes held m)
+gate_sent None m = ((omega arith, omega arith), ((omega arith, omega arith), tt))
+gate_sent (Some s) m = ((omega arith, omega arith), ((omega arith, omega arith), ((omega arith, omega arith), tt)))
 
-joined_sent : (a b : List (ℕ × Bool)) → Numbered a → Sent (first_cause a) → Sent (first_cause b) → Sent (first_cause (a ++ b))
-joined_sent a b z k l = go (first_cause a) refl
-  where
-    go : (n : ℕ) → first_cause a ≡ n → Sent (first_cause (a ++ b))
-    go zero e = subst Sent (sym (first_go a b z e)) l
-    go (suc n) e = subst Sent (e ∙ sym (first_stop a b (suc n) e (λ w. omega (arith, w)))) k
+rows_sent : (rows : List Row) (o : Option Cursor) (q : Option Request) → Each Sent (rows_causes rows o q)
+rows_sent rows None q = tt
+rows_sent rows (Some c) None = tt
+rows_sent rows (Some c) (Some q) =
+    ((omega arith, omega arith), ((omega arith, omega arith), ((omega arith, omega arith), ((omega arith, omega arith), tt))))
 
-body_sent : (rows : List Row) (held : Option Seat) (m : List ℕ) → Sent (first_cause (body_of rows held m))
-unfolding first_cause
-body_sent rows None m = tt
-body_sent rows (Some s) m =
-    causes_sent (body_causes rows (kind_of (msg_of m)) s m) (body_over rows (kind_of (msg_of m)) s m) (body_under rows (kind_of (msg_of m)) s m)
+body_sent : (rows : List Row) (kind : ℕ) (s : Seat) (m : List ℕ) → Each Sent (body_causes rows kind s m)
+body_sent rows kind s m =
+    by_test (eqb kind disconnects)
+    (λ q. rw q ((omega arith, omega arith), tt))
+    (λ q.
+    by_test (eqb kind frees)
+    (λ w. rw (q, w) ((omega arith, omega arith), ((omega arith, omega arith), tt)))
+    (λ w.
+    by_test (eqb kind fetches)
+    (λ e. rw (q, w, e) ((omega arith, omega arith), ((omega arith, omega arith), rows_sent rows (cursor_in s (handle_of m)) (request m))))
+    (λ e. rw (q, w, e) ((omega arith, omega arith), ((omega arith, omega arith), ((omega arith, omega arith), tt))))))
+
+seat_causes_sent : (rows : List Row) (held : Option Seat) (m : List ℕ) → Each Sent (seat_causes rows held m)
+seat_causes_sent rows held m = each_both (gate_causes held m) (body_of rows held m) (gate_sent held m) (of held)
+  where
+    each_both : (a b : List (ℕ × Bool)) → Each Sent a → Each Sent b → Each Sent (a ++ b)
+    each_both [] b u w = w
+    each_both (c ∷ a) b u w = (u.0, each_both a b u.1 w)
+
+    of : (x : Option Seat) → Each Sent (body_of rows x m)
+    of None = tt
+    of (Some s) = body_sent rows (kind_of (msg_of m)) s m
 
 rows_done_sent : (rows : List Row) (s : Seat) (handle : ℕ) (o : Option Cursor) (q : Option Request) → Sent (rows_done rows s handle o q).refusal
 rows_done_sent rows s handle None q = tt
@@ -137,10 +105,7 @@ unfolding seat_message
 seat_sent rows held m =
     by_test (eqb (first_cause (seat_causes rows held m)) 0)
     (λ q. rw q (done_sent rows held m))
-    (λ q.
-    rw q
-    (joined_sent (gate_causes held m) (body_of rows held m) (gate_numbered held m) (causes_sent (gate_causes held m) (gate_over held m) (gate_under held m))
-    (body_sent rows held m)))
+    (λ q. rw q (first_each Sent (seat_causes rows held m) (seat_causes_sent rows held m) tt))
 
 -- the answer that has such a number, and 16 where it is 0, counts the header's bytes
 number_sent : (n : ℕ) → Sent n → number_of {A = ℕ} (refusing n 16) ≡ n

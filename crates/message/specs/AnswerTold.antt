@@ -35,7 +35,7 @@ AnswersAny b m r words entry exit = (rows : List Row) → Answers (seat_message 
 abbrev pub bindings_found : Bool → Bool → Bool → List (ℕ × Bool)
 bindings_found malformed opens fits = (9, malformed) ∷ (10, not opens) ∷ (12, not fits) ∷ []
 
--- a refusal from 6 on: "the reply is 16 bytes: _msg, the status, zero, zero". Its number is answered, and the count of its bytes.
+-- a refusal from 6 on: "the reply is 16 bytes: _msg, the status, zero, zero". The answer is its number and the count of these bytes.
 pub record Refuses (msg refusal : ℕ) (r : ℕ × ℕ) (entry exit : List ℕ) : Type 0 where
   pub answered : r ≡ (refusal, 16)
   pub written : exit ≡ lay entry 0 (four_words msg (status_of refusal) 0 0)

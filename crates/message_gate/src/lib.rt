@@ -110,7 +110,7 @@ pub fn gate(
     }
 }
 
-// A refusal from 6 on, by its number: the header with its status. Answers the number and the count of bytes.
+// A refusal from 6 on, by its number: the header with its status. Answers the number and the count of the header's bytes.
 pub fn refuse(reply: &mut [u8], msg: u32, refusal: u32) -> (u32, u32)
     requires { (header_size ≤ length reply.old) × (refusal < 17) }
     ensures { Refuses msg refusal result reply.old reply.new }

@@ -2,7 +2,7 @@
 use mathlib.Core.Path.{◌≡◌, refl, sym}
 use mathlib.Core.Bool.{Bool}
 use mathlib.Core.List.{List, [], ◌∷◌, ◌++◌}
-use Prim.Native.Nat.{ℕ, ◌<◌, ◌≤◌}
+use Prim.Native.Nat.{ℕ, ◌<◌}
 use Rattle.lists.proofs.Below.{by_test}
 use Rattle.refusal.specs.Refusal.{first_cause}
 
@@ -15,10 +15,19 @@ first_stop (c ∷ a) b n e z =
     (λ q. rw q (rw q at e))
     (λ q. rw q (first_stop a b n (rw q at e) z))
 
+-- each number of a list has a property; so has that of the first cause that applies, if 0 has it, which stands for none
+abbrev pub Each : (ℕ → Type 0) → List (ℕ × Bool) → Type 0
+Each P [] = Unit {0}
+Each P (c ∷ a) = P c.0 × Each P a
+
+pub first_each : (P : ℕ → Type 0) (a : List (ℕ × Bool)) → Each P a → P 0 → P (first_cause a)
+unfolding first_cause
+first_each P [] e z = z
+first_each P (c ∷ a) e z = by_test c.1 (λ q. rw q e.0) (λ q. rw q (first_each P a e.1 z))
+
 -- no number of a list is zero
 abbrev pub Numbered : List (ℕ × Bool) → Type 0
-Numbered [] = Unit {0}
-Numbered (c ∷ a) = (c.0 ≡ 0 → ⊥) × Numbered a
+Numbered a = Each (λ (k : ℕ). k ≡ 0 → ⊥) a
 
 -- where none of them applies, the others decide
 pub first_go : (a b : List (ℕ × Bool)) → Numbered a → first_cause a ≡ 0 → first_cause (a ++ b) ≡ first_cause b
@@ -38,22 +47,9 @@ first_both (c ∷ a) b n e =
     (λ q. absurd (n.0 (rw q at e)))
     (λ q. rw q (first_both a b n.1 (rw q at e)))
 
--- no number of a list is below a bound, and so is none that applies
-abbrev pub Over : ℕ → List (ℕ × Bool) → Type 0
-Over n [] = Unit {0}
-Over n (c ∷ a) = (n ≤ c.0) × Over n a
-
-pub first_over : (n : ℕ) (a : List (ℕ × Bool)) → Over n a → (first_cause a ≡ 0 → ⊥) → n ≤ first_cause a
-unfolding first_cause
-first_over n [] u z = absurd (z refl)
-first_over n (c ∷ a) u z = by_test c.1 (λ q. rw q u.0) (λ q. rw q (first_over n a u.1 (rw q at z)))
-
 -- every number of a list is below a bound, and so is the first that applies
 abbrev pub Under : ℕ → List (ℕ × Bool) → Type 0
-Under n [] = Unit {0}
-Under n (c ∷ a) = (c.0 < n) × Under n a
+Under n a = Each (λ (k : ℕ). k < n) a
 
 pub first_under : (n : ℕ) (a : List (ℕ × Bool)) → 0 < n → Under n a → first_cause a < n
-unfolding first_cause
-first_under n [] z u = z
-first_under n (c ∷ a) z u = by_test c.1 (λ q. rw q u.0) (λ q. rw q (first_under n a z u.1))
+first_under n a z u = first_each (λ (k : ℕ). k < n) a u z
