@@ -2,7 +2,7 @@
 use mathlib.Core.Path.{◌≡◌, refl, sym}
 use mathlib.Core.Bool.{Bool}
 use mathlib.Core.List.{List, [], ◌∷◌, ◌++◌}
-use Prim.Native.Nat.{ℕ, ◌<◌}
+use Prim.Native.Nat.{ℕ, ◌<◌, ◌≤◌}
 use Rattle.lists.proofs.Below.{by_test}
 use Rattle.refusal.specs.Refusal.{first_cause}
 
@@ -46,6 +46,15 @@ first_both (c ∷ a) b n e =
     by_test c.1
     (λ q. absurd (n.0 (rw q at e)))
     (λ q. rw q (first_both a b n.1 (rw q at e)))
+
+-- no number of a list is below a bound, and so is none that applies
+abbrev pub Over : ℕ → List (ℕ × Bool) → Type 0
+Over n a = Each (λ (k : ℕ). n ≤ k) a
+
+pub first_over : (n : ℕ) (a : List (ℕ × Bool)) → Over n a → (first_cause a ≡ 0 → ⊥) → n ≤ first_cause a
+unfolding first_cause
+first_over n [] u z = absurd (z refl)
+first_over n (c ∷ a) u z = by_test c.1 (λ q. rw q u.0) (λ q. rw q (first_over n a u.1 (rw q at z)))
 
 -- every number of a list is below a bound, and so is the first that applies
 abbrev pub Under : ℕ → List (ℕ × Bool) → Type 0
